@@ -1,0 +1,21 @@
+-- `capture::word_at` meets its contract, in either order.
+-- Assumes nothing.
+use borrow.Author.Needs.{needs}
+use Rattle.capture.proofs.word_at.Statement.{statement}
+use Rattle.capture.proofs.word_at.Tie as tie
+
+pub word-at-spec : {M : Type 1} → statement M
+word-at-spec =
+    tie.close
+    (tie.spec
+    (λ c κs. search needs)
+    (λ c. search needs)
+    (λ c κs. search needs)
+    (λ c. search needs)
+    (λ c. search needs)
+    (λ c. search needs)
+    (λ c. search needs)
+    (λ c. search needs)
+    (λ c. search needs)
+    (λ c. rw (← c .before .before .before .half-at .ensures .0, ← c .before .before .half-at2 .ensures .0, c .enum-told .given .1))
+    (λ c. rw (← c .before .before .before .half-at .ensures .0, ← c .before .before .half-at2 .ensures .0, c .enum-told2 .given .1)))

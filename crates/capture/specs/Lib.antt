@@ -1,0 +1,5 @@
+pub mod Pcap
+pub mod Cases
+pub mod Accepts
+pub mod Steps
+pub mod Examples

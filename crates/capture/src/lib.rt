@@ -1,0 +1,142 @@
+// A classic capture file: how it is opened, and what the next record is.
+ghost use mathlib.Core.Path.{_≡_};
+ghost use mathlib.Core.List.{[], _∷_};
+ghost use Prim.Native.Nat.{_+_, _<_, _≤_};
+ghost use lib.ListN.{length};
+ghost use lib.Dec.{leb};
+ghost use Rattle.capture.specs.Pcap.{begins, half, word, byMagic, opened, nextOf};
+
+// The order of the bytes of a capture's numbers: the most significant first, or last.
+pub enum Order {
+    Big,
+    Little,
+}
+
+// What the first bytes of a file are: those of a capture that is accepted, or not.
+pub enum Opened {
+    Capture(Order),
+    Refused,
+}
+
+// What comes next behind the file header or a record.
+pub enum Next {
+    // Nothing: the capture ends at a record's edge.
+    Edge,
+    // Some bytes, too few for a record header.
+    Cut,
+    // A record header whose captured length is above 16,384.
+    TooLong,
+    // A record of this captured length.
+    Data(u32),
+}
+
+// A byte as a wider number.
+fn wide(b: u8) -> u32
+    ensures { λ r. ⌜ (r ≡ b) × (r < 256) ⌝ }
+{
+    b as u32
+}
+
+// The 16-bit number at a place, in the capture's order.
+fn half_at(order: Order, s: &[u8], at: usize) -> u32
+    requires { ⌜ at + 1 < length (now s) ⌝ }
+    ensures { λ r. ⌜ (r ≡ half order (now (s .entry)) at) × (r < 65536) ⌝ }
+{
+    let first = wide(s[at]);
+    let second = wide(s[at + 1]);
+    match order {
+        Order::Big => first * 256 + second,
+        Order::Little => second * 256 + first,
+    }
+}
+
+// The 32-bit number at a place, in the capture's order.
+fn word_at(order: Order, s: &[u8], at: usize) -> u32
+    requires { ⌜ at + 3 < length (now s) ⌝ }
+    ensures { λ r. ⌜ r ≡ word order (now (s .entry)) at ⌝ }
+{
+    let first = half_at(order, s, at);
+    let second = half_at(order, s, at + 2);
+    match order {
+        Order::Big => first * 65536 + second,
+        Order::Little => second * 65536 + first,
+    }
+}
+
+// Whether the first four bytes are these.
+fn starts(s: &[u8], a: u8, b: u8, c: u8, d: u8) -> bool
+    requires { ⌜ 4 ≤ length (now s) ⌝ }
+    ensures { λ r. ⌜ r ≡ begins (now (s .entry)) 0 (a ∷ b ∷ c ∷ d ∷ []) ⌝ }
+{
+    if s[0] != a {
+        return false;
+    }
+    if s[1] != b {
+        return false;
+    }
+    if s[2] != c {
+        return false;
+    }
+    s[3] == d
+}
+
+// The order that the first four bytes show: the magic bytes as they stand, or in reverse.
+fn by_magic(s: &[u8]) -> Opened
+    requires { ⌜ 4 ≤ length (now s) ⌝ }
+    ensures { λ r. ⌜ r ≡ byMagic (now (s .entry)) ⌝ }
+{
+    let magic = b"\xA1\xB2\xC3\xD4";
+    if starts(s, magic[0], magic[1], magic[2], magic[3]) {
+        return Opened::Capture(Order::Big);
+    }
+    if starts(s, magic[3], magic[2], magic[1], magic[0]) {
+        return Opened::Capture(Order::Little);
+    }
+    Opened::Refused
+}
+
+// Opens a capture by the first bytes of its file: 24 of them, version 2.4, and raw IP as the whole link type.
+pub fn open(s: &[u8]) -> Opened
+    ensures { λ r. ⌜ r ≡ opened (now (s .entry)) ⌝ }
+{
+    if s.len() < 24 {
+        return Opened::Refused;
+    }
+    let Opened::Capture(order) = by_magic(s) else {
+        return Opened::Refused;
+    };
+    if half_at(order, s, 4) != 2 {
+        return Opened::Refused;
+    }
+    if half_at(order, s, 6) != 4 {
+        return Opened::Refused;
+    }
+    if word_at(order, s, 20) != 101 {
+        return Opened::Refused;
+    }
+    Opened::Capture(order)
+}
+
+// What comes next, by the bytes that could be read of a record header: 16, or fewer where the capture ends.
+pub fn record_header(order: Order, bytes: &[u8]) -> Next
+    ensures { λ r. ⌜ r ≡ nextOf order (now (bytes .entry)) ⌝ }
+{
+    if bytes.len() == 0 {
+        return Next::Edge;
+    }
+    if bytes.len() < 16 {
+        return Next::Cut;
+    }
+    let captured = word_at(order, bytes, 8);
+    if 16384 < captured {
+        return Next::TooLong;
+    }
+    Next::Data(captured)
+}
+
+// Whether a record is whole: as many bytes of its data could be read as were captured.
+pub fn whole(captured: u32, got: usize) -> bool
+    ensures { λ r. ⌜ r ≡ leb captured got ⌝ }
+{
+    captured as usize <= got
+}

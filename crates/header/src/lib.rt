@@ -1,0 +1,151 @@
+// The packet reader: the bytes of a packet, from its IPv4 header on, to the five values that rules
+// speak of. What is right stands in specs/Header.antt, and every slice has an answer.
+ghost use mathlib.Core.Path.{_≡_};
+ghost use Prim.Native.Nat.{_+_, _<_, _≤_};
+ghost use lib.ListN.{length};
+ghost use Rattle.header.specs.Header.{
+  half,
+  word,
+  headerLength,
+  totalLength,
+  hasPorts,
+  unreadable,
+  packetOf,
+  headerOf,
+};
+ghost use Rattle.header.specs.Facts.{Readable};
+
+// A packet's values, in the order of the fields.
+pub struct Packet {
+    pub destination: u32,
+    pub source: u32,
+    pub protocol: u32,
+    pub destination_port: u32,
+    pub source_port: u32,
+}
+
+// What a slice of bytes is: a packet with these values, or nothing that can be read.
+pub enum Header {
+    Values(Packet),
+    Unreadable,
+}
+
+// The values of the packet that s begins with.
+pub fn read_header(s: &[u8]) -> Header
+    ensures { λ r. ⌜ r ≡ headerOf (now (s .entry)) ⌝ }
+{
+    if is_unreadable(s) {
+        return Header::Unreadable;
+    }
+    Header::Values(read_values(s))
+}
+
+// Whether s gives no values. The tests stand in document 01's order.
+fn is_unreadable(s: &[u8]) -> bool
+    ensures { λ r. ⌜ r ≡ unreadable (now (s .entry)) ⌝ }
+{
+    if s.len() < 20 {
+        return true;
+    }
+    if s[0] / 16 != 4 {
+        return true;
+    }
+    if s[0] % 16 < 5 {
+        return true;
+    }
+    let behind = header_length(s);
+    let total = total_length(s);
+    if total < behind {
+        return true;
+    }
+    if s.len() < total {
+        return true;
+    }
+    if has_ports(s) {
+        return total < behind + 4;
+    }
+    false
+}
+
+// The values of a packet that can be read.
+fn read_values(s: &[u8]) -> Packet
+    requires { ⌜ Readable (now s) ⌝ }
+    ensures { λ r. ⌜ r ≡ packetOf (now (s .entry)) ⌝ }
+{
+    let destination = word_at(s, 16);
+    let source = word_at(s, 12);
+    let protocol = wide(s[9]);
+    if has_ports(s) {
+        let behind = header_length(s);
+        let source_port = half_at(s, behind);
+        let destination_port = half_at(s, behind + 2);
+        return Packet {
+            destination,
+            source,
+            protocol,
+            destination_port,
+            source_port,
+        };
+    }
+    Packet {
+        destination,
+        source,
+        protocol,
+        destination_port: 0,
+        source_port: 0,
+    }
+}
+
+// Whether the packet carries ports: it is TCP or UDP, and whole or the first of its fragments. The
+// fragment offset is the lower thirteen bits of bytes 6 and 7; those above are flags.
+fn has_ports(s: &[u8]) -> bool
+    requires { ⌜ 20 ≤ length (now s) ⌝ }
+    ensures { λ r. ⌜ r ≡ hasPorts (now (s .entry)) ⌝ }
+{
+    if half_at(s, 6) % 8192 != 0 {
+        return false;
+    }
+    if s[9] == 6 {
+        return true;
+    }
+    s[9] == 17
+}
+
+// The header's length in bytes, which is also where that which it carries begins.
+fn header_length(s: &[u8]) -> usize
+    requires { ⌜ 20 ≤ length (now s) ⌝ }
+    ensures { λ r. ⌜ (r ≡ headerLength (now (s .entry))) × (r < 64) ⌝ }
+{
+    (wide(s[0]) % 16 * 4) as usize
+}
+
+// The packet's length in bytes, header included, as the header says it.
+fn total_length(s: &[u8]) -> usize
+    requires { ⌜ 20 ≤ length (now s) ⌝ }
+    ensures { λ r. ⌜ r ≡ totalLength (now (s .entry)) ⌝ }
+{
+    half_at(s, 2) as usize
+}
+
+// The 32-bit number at a place, most significant byte first.
+fn word_at(s: &[u8], at: usize) -> u32
+    requires { ⌜ at + 3 < length (now s) ⌝ }
+    ensures { λ r. ⌜ r ≡ word (now (s .entry)) at ⌝ }
+{
+    half_at(s, at) * 65536 + half_at(s, at + 2)
+}
+
+// The 16-bit number at a place, most significant byte first.
+fn half_at(s: &[u8], at: usize) -> u32
+    requires { ⌜ at + 1 < length (now s) ⌝ }
+    ensures { λ r. ⌜ (r ≡ half (now (s .entry)) at) × (r < 65536) ⌝ }
+{
+    wide(s[at]) * 256 + wide(s[at + 1])
+}
+
+// A byte as a wider number.
+fn wide(b: u8) -> u32
+    ensures { λ r. ⌜ (r ≡ b) × (r < 256) ⌝ }
+{
+    b as u32
+}

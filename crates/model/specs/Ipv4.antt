@@ -1,0 +1,8 @@
+-- The IPv4 gateway's five fields and its limit. This is the only file that knows how many fields there are.
+-- Assumes nothing: these are definitions.
+use mathlib.Core.List.{[], _∷_}
+use Rattle.model.specs.Table.{Kind}
+
+-- "1 destination address, 2 source address, 3 protocol, 4 destination port, 5 source port", each with its top; "At most 64 rules besides the default"
+abbrev pub ipv4 : Kind
+ipv4 = record { tops = 4294967295 ∷ 4294967295 ∷ 255 ∷ 65535 ∷ 65535 ∷ []; most = 64 }

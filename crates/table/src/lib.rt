@@ -1,0 +1,229 @@
+// The table of a store in its rows: 65 rows of 15 words, the default's first, then the rules by rising number, then rows of zeros. Read, held to the limits, searched, and edited by making the rows anew beside the old ones.
+ghost use mathlib.Core.Path.{_≡_};
+ghost use mathlib.Core.Bool.{true};
+ghost use Prim.Native.Nat.{suc, _+_, _*_, _≤_, _<_};
+ghost use lib.ListN.{length, getD, take};
+ghost use Rattle.model.specs.Lists.{same, upTo};
+ghost use Rattle.model.specs.Rules.{rangesRight};
+ghost use Rattle.model.specs.Table.{fieldsFrom, risingFrom, allRight, stands};
+ghost use Rattle.rows.specs.Rows.{numberOf, lowOf, highOf};
+ghost use Rattle.table.specs.Rows.{kindOf, given, rowWord, rowsWord, rowsText, ruleIn, tableIn, places as placesOf, ahead, putWord, takeWord};
+
+// A rule: five low ends and five high ends besides its number and its action.
+pub struct Rule {
+    pub number: u32,
+    pub action: u32,
+    pub low: [u32; 5],
+    pub high: [u32; 5],
+}
+
+// The word at a place of the rows; behind the last one 0.
+fn word(rows: &[u32], i: usize) -> u32
+    ensures { λ r. ⌜ r ≡ getD (now (rows .entry)) i 0 ⌝ }
+{
+    if i < rows.len() { rows[i] } else { 0 }
+}
+
+// What word j of the default's row has to be, where its action is given: number 65,535, and the whole range of each field.
+fn default_word(action: u32, tops: &[u32], j: usize) -> u32
+    ensures { λ r. ⌜ r ≡ rowWord (defaultRule (kindOf (now (tops .entry))) action) j ⌝ }
+{
+    if j == 0 {
+        return 65535;
+    }
+    if j == 1 {
+        return action;
+    }
+    if j % 2 == 0 {
+        return 0;
+    }
+    word(tops, j / 2 - 1)
+}
+
+// What word i of the rows of n rules has to be: the default's row is its own; in a rule's row the words of its number, action and ends are what they are, and all else is 0.
+fn rows_word(rows: &[u32], n: u32, tops: &[u32], i: usize) -> u32
+    requires { ⌜ (i < 975) × (length (now tops) ≤ 6) ⌝ }
+    ensures { λ r. ⌜ r ≡ rowsWord (kindOf (now (tops .entry))) (tableIn (kindOf (now (tops .entry))) n (now (rows .entry))) i ⌝ }
+{
+    let p = i / 15;
+    let j = i % 15;
+    if p == 0 {
+        return default_word(word(rows, 1), tops, j);
+    }
+    if (n as usize) < p {
+        return 0;
+    }
+    if 2 + 2 * tops.len() <= j {
+        return 0;
+    }
+    word(rows, i)
+}
+
+// Whether the rows are those of the table that they hold, where it has n rules: the default's row is right, and every word that is not a rule's is 0.
+pub fn rows_are(rows: &[u32], n: u32, tops: &[u32]) -> bool
+    requires { ⌜ (length (now rows) ≡ 975) × (length (now tops) ≤ 6) ⌝ }
+    ensures { λ r. ⌜ r ≡ same (now (rows .entry)) (rowsText (kindOf (now (tops .entry))) (tableIn (kindOf (now (tops .entry))) n (now (rows .entry)))) ⌝ }
+{
+    let mut i: usize = 0;
+    while i < 975 {
+        if rows[i] != rows_word(rows, n, tops, i) {
+            return false;
+        }
+        i += 1;
+    }
+    true
+}
+
+ghost use Rattle.model.specs.Table.{defaultRule};
+
+// The number of the rule at a place.
+pub fn number(rows: &[u32], place: u32) -> u32
+    ensures { λ r. ⌜ r ≡ numberOf (now (rows .entry)) place ⌝ }
+{
+    word(rows, 15 * (place as usize))
+}
+
+// The action of the rule at a place.
+pub fn action(rows: &[u32], place: u32) -> u32
+    ensures { λ r. ⌜ r ≡ actionOf (now (rows .entry)) place ⌝ }
+{
+    word(rows, 15 * (place as usize) + 1)
+}
+
+ghost use Rattle.rows.specs.Rows.{actionOf};
+
+// Whether the numbers of the n rules rise, from 0 to 65,534.
+pub fn rising(rows: &[u32], n: u32, tops: &[u32]) -> bool
+    requires { ⌜ n ≤ 64 ⌝ }
+    ensures { λ r. ⌜ r ≡ risingFrom 0 (tableIn (kindOf (now (tops .entry))) n (now (rows .entry)) .rules) ⌝ }
+{
+    let mut least: u32 = 0;
+    let mut p: u32 = 0;
+    while p < n {
+        p += 1;
+        let x = number(rows, p);
+        if x < least {
+            return false;
+        }
+        if 65534 < x {
+            return false;
+        }
+        least = x + 1;
+    }
+    true
+}
+
+// Whether the rule at a place has right ranges: no low end above its high end, no high end above its field's top.
+pub fn right(rows: &[u32], place: u32, tops: &[u32]) -> bool
+    requires { ⌜ length (now tops) ≤ 6 ⌝ }
+    ensures { λ r. ⌜ r ≡ rangesRight (fieldsFrom 0 (now (tops .entry))) (ruleIn (length (now (tops .entry))) (now (rows .entry)) place) ⌝ }
+{
+    let mut f: u32 = 0;
+    while (f as usize) < tops.len() {
+        let high = rows::high(rows, place, f);
+        if high < rows::low(rows, place, f) {
+            return false;
+        }
+        if tops[f as usize] < high {
+            return false;
+        }
+        f += 1;
+    }
+    true
+}
+
+// Whether each of the n rules has right ranges.
+pub fn all_right(rows: &[u32], n: u32, tops: &[u32]) -> bool
+    requires { ⌜ (n ≤ 64) × (length (now tops) ≤ 6) ⌝ }
+    ensures { λ r. ⌜ r ≡ allRight (kindOf (now (tops .entry))) (tableIn (kindOf (now (tops .entry))) n (now (rows .entry)) .rules) ⌝ }
+{
+    let mut p: u32 = 0;
+    while p < n {
+        p += 1;
+        if !right(rows, p, tops) {
+            return false;
+        }
+    }
+    true
+}
+
+// How many of the n rules stand before the place of the number x. It is looked for from the lowest number up.
+pub fn before(rows: &[u32], n: u32, tops: &[u32], x: u32) -> u32
+    requires { ⌜ (n ≤ 64) × (risingFrom 0 (tableIn (kindOf (now tops)) n (now rows) .rules) ≡ true) ⌝ }
+    ensures { λ r. ⌜ (r ≡ ahead x (tableIn (kindOf (now (tops .entry))) n (now (rows .entry)) .rules)) × (r ≤ n) ⌝ }
+{
+    let mut p: u32 = 0;
+    while p < n {
+        if x <= number(rows, p + 1) {
+            return p;
+        }
+        p += 1;
+    }
+    p
+}
+
+// Writes the rows with a row put in at a place.
+pub fn put(rows: &[u32], place: u32, row: &[u32], out: &mut [u32])
+    requires { ⌜ (place ≤ 64) × (length (now out) ≡ 975) ⌝ }
+    ensures { λ _. ⌜ now (out .exit) ≡ upTo 975 (putWord (now (rows .entry)) place (now (row .entry))) ⌝ }
+{
+    let p = 15 * (place as usize);
+    let mut i: usize = 0;
+    while i < 975 {
+        out[i] = put_word(rows, p, row, i);
+        i += 1;
+    }
+}
+
+fn put_word(rows: &[u32], p: usize, row: &[u32], i: usize) -> u32
+    requires { ⌜ p < 1000 ⌝ }
+    ensures { λ r. ⌜ r ≡ cond (ltb i p) (getD (now (rows .entry)) i 0) (cond (ltb i (p + 15)) (getD (now (row .entry)) (i - p) 0) (getD (now (rows .entry)) (i - 15) 0)) ⌝ }
+{
+    if i < p {
+        return word(rows, i);
+    }
+    if i < p + 15 {
+        return word(row, i - p);
+    }
+    word(rows, i - 15)
+}
+
+ghost use mathlib.Core.Bool.{cond};
+ghost use lib.Dec.{ltb};
+ghost use Prim.Native.Nat.{_-_};
+
+// Writes the rows without the row at a place.
+pub fn take_out(rows: &[u32], place: u32, out: &mut [u32])
+    requires { ⌜ (place ≤ 64) × (length (now out) ≡ 975) ⌝ }
+    ensures { λ _. ⌜ now (out .exit) ≡ upTo 975 (takeWord (now (rows .entry)) place) ⌝ }
+{
+    let p = 15 * (place as usize);
+    let mut i: usize = 0;
+    while i < 975 {
+        out[i] = take_word(rows, p, i);
+        i += 1;
+    }
+}
+
+fn take_word(rows: &[u32], p: usize, i: usize) -> u32
+    requires { ⌜ i < 1000 ⌝ }
+    ensures { λ r. ⌜ r ≡ cond (ltb i p) (getD (now (rows .entry)) i 0) (getD (now (rows .entry)) (i + 15) 0) ⌝ }
+{
+    if i < p {
+        return word(rows, i);
+    }
+    word(rows, i + 15)
+}
+
+// Writes all places of a table of n rules, by rising number, the default's last.
+pub fn places(n: u32, out: &mut [u32])
+    requires { ⌜ (n ≤ 64) × (length (now out) ≡ 65) ⌝ }
+    ensures { λ _. ⌜ take (n + 1) (now (out .exit)) ≡ placesOf n ⌝ }
+{
+    let mut i: u32 = 0;
+    while i < n {
+        out[i as usize] = i + 1;
+        i += 1;
+    }
+    out[n as usize] = 0;
+}
