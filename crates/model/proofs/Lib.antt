@@ -6,3 +6,6 @@ pub mod Sets
 pub mod Bound
 pub mod Fewer
 pub mod UpTo
+pub mod Limits
+pub mod Edits
+pub mod Decide

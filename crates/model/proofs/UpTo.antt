@@ -26,6 +26,9 @@ unfolding same
 same-refl [] = refl
 same-refl (x ∷ xs) = rw (eq-eqb x x refl) (same-refl xs)
 
+pub true-same : (xs ys : List ℕ) → xs ≡ ys → same xs ys ≡ true
+true-same xs ys h = rw h (same-refl ys)
+
 pub same-false : (xs ys : List ℕ) → (xs ≡ ys → ⊥) → same xs ys ≡ false
 same-false xs ys h = by-test (same xs ys) (λ q. absurd (h (same-true xs ys q))) (λ q. q)
 

@@ -14,9 +14,13 @@ use Rattle.table.specs.declared.Rule.{Rule as Given}
 abbrev pub kindOf : List ℕ → Kind
 kindOf ts = record { tops = ts; most = 64 }
 
+-- the five numbers of an array of ends
+abbrev pub five : List ℕ → List ℕ
+five a = upTo 5 (λ i. getD a i 0)
+
 -- a rule as a caller gives it: a struct with two arrays of ends
 abbrev pub given : Given → Rule
-given r = record { number = r .number; action = r .action; lows = r .low; highs = r .high }
+given r = record { number = r .number; action = r .action; lows = five (r .low); highs = five (r .high) }
 
 -- where no rule stands: its row is zeros
 abbrev pub noRule : Rule

@@ -227,3 +227,67 @@ pub fn places(n: u32, out: &mut [u32])
     }
     out[n as usize] = 0;
 }
+
+// The row of a rule.
+pub fn row_of(rule: Rule) -> [u32; 15]
+    ensures { λ r. ⌜ r ≡ upTo 15 (rowWord (given rule)) ⌝ }
+{
+    let low = rule.low;
+    let high = rule.high;
+    [
+        rule.number,
+        rule.action,
+        low[0],
+        high[0],
+        low[1],
+        high[1],
+        low[2],
+        high[2],
+        low[3],
+        high[3],
+        low[4],
+        high[4],
+        0,
+        0,
+        0,
+    ]
+}
+
+// The rule at a place.
+pub fn rule_at(rows: &[u32], place: u32) -> Rule
+    ensures { λ r. ⌜ given r ≡ ruleIn 5 (now (rows .entry)) place ⌝ }
+{
+    Rule {
+        number: number(rows, place),
+        action: action(rows, place),
+        low: [
+            rows::low(rows, place, 0),
+            rows::low(rows, place, 1),
+            rows::low(rows, place, 2),
+            rows::low(rows, place, 3),
+            rows::low(rows, place, 4),
+        ],
+        high: [
+            rows::high(rows, place, 0),
+            rows::high(rows, place, 1),
+            rows::high(rows, place, 2),
+            rows::high(rows, place, 3),
+            rows::high(rows, place, 4),
+        ],
+    }
+}
+
+// Writes the rows of a table that has the default alone, with its action.
+pub fn fresh(action: u32, tops: &[u32], out: &mut [u32])
+    requires { ⌜ (length (now tops) ≤ 6) × (length (now out) ≡ 975) ⌝ }
+    ensures { λ _. ⌜ now (out .exit) ≡ rowsText (kindOf (now (tops .entry))) (record { action = action; rules = [] }) ⌝ }
+{
+    let row = [0, action];
+    let mut i: usize = 0;
+    while i < 975 {
+        out[i] = rows_word(&row, 0, tops, i);
+        i += 1;
+    }
+}
+
+ghost use mathlib.Core.List.{[]};

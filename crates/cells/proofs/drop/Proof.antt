@@ -1,0 +1,18 @@
+-- `cells::drop` leaves the part of a store with no tree. Assumes nothing.
+use native.Mathlib.Omega.{arith}
+use borrow.Author.Needs.{needs}
+use Rattle.cells.proofs.Part.{part-held, part-dropped}
+use Rattle.cells.proofs.drop.Statement.{statement}
+use Rattle.cells.proofs.drop.Tie as tie
+
+pub drop-spec : {M : Type 1} → statement M
+drop-spec =
+    tie.close
+    (tie.spec
+    (λ c. let r = c .before .before .pre in omega (arith, part-held (r .is) (r .fits) (r .most) .state .tot))
+    (λ c κs. let r = c .before .before .before .pre in record { a = _; n = _; q = _; t = _; deep = r .deep; held = part-held (r .is) (r .fits) (r .most) })
+    (λ c. let r = c .before .before .before .before .before .before .pre in omega (arith, c .before .before .free-chain .kept .0, part-held (r .is) (r .fits) (r .most) .state .tot))
+    (λ c. search needs)
+    (λ c.
+    let r = c .before .before .before .before .before .before .pre in
+    part-dropped (r .t) (r .fits) (c .before .before .free-chain .ensures _ _ _ (r .t) (r .deep) (part-held (r .is) (r .fits) (r .most)))))

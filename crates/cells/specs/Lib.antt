@@ -1,0 +1,4 @@
+pub mod Text
+pub mod Planted
+pub mod States
+pub mod Examples

@@ -1,0 +1,369 @@
+-- The steps of a comparison: the run of a chain by its ends, from the highest down; what is below each of its cells; the free chain; and the whole part.
+-- Assumes nothing.
+use mathlib.Core.Path.{_≡_, refl, sym, ap, _∙_}
+use mathlib.Core.Bool.{Bool, true, false, not, _&&_}
+use mathlib.Core.List.{List, [], _∷_}
+use Prim.Native.Nat.{ℕ, zero, suc, _+_, _-_, _*_, _≤_, _<_}
+use native.Mathlib.Nat.{add-zero}
+use native.Mathlib.Omega.{arith}
+use native.Mathlib.Numerals.{add-one}
+use lib.Dec.{ltb, leb}
+use lib.ListN.{length, getD, drop, drop-of-length-le, length-drop}
+use lib.Seq.{drop-cons}
+use borrow.Author.Tests.{ltb-true, lt-ltb, leb-true, le-leb, eqb-true}
+use Rattle.model.specs.Lists.{In, keep, Rising}
+use Rattle.model.specs.Rules.{Field, covers, ends, Tree, names, chain, cells}
+use Rattle.model.proofs.Tests.{by-test, never, and-left, and-right, and-both, same-test}
+use Rattle.model.proofs.Keep.{keep-every}
+use Rattle.model.proofs.Ends.{ends-rising}
+use Rattle.rows.specs.Rows.{fieldAt, firstOf, treeAt, underAt, lower, Lower}
+use Rattle.rows.proofs.Lower.{lower-in, done, done-start, done-step, done-all, tree-none, tree-step}
+use Rattle.cells.specs.Text.{word, cell, frees, low, row, width, under, first, marks, belows, text, part}
+use Rattle.compare.specs.declared.Told.{Told}
+use Rattle.compare.specs.declared.Told.the-variants.{Same, Differs}
+use Rattle.model.specs.Lists.{same}
+use Rattle.compare.specs.Compare.{Room, from, told, headIs, restIs, before, headsAre, toldRun}
+use Rattle.model.proofs.UpTo.{same-true, true-same, same-false}
+use Rattle.compare.proofs.Answers.{was-no, was-yes, answer-no, answer-differs, answer-same}
+use Rattle.compare.proofs.Text.{marks-len, cells-sum, Cell, cell-rest, cell-here, cell-head, cell-others, cell-inside, cell-of, Held, Parts, text-parts, text-rest, parts-held, told-same, told-differs, told-not, told-held, told-inside}
+
+-- THE RUN. What a rising list keeps from a bound on is its end.
+keep-end : (es : List ℕ) → Rising es → (b : ℕ) → (n : ℕ) × (keep (leb b) es ≡ drop n es)
+keep-end [] r b = (0, refl)
+keep-end (e ∷ es) r b = by-test (leb b e)
+    (λ t. (0, rw t (ap (λ l. e ∷ l) (keep-every (leb b) es (λ x m. le-leb b x (omega (arith, leb-true b e t, r .0 x m)))))))
+    (λ t. let s = keep-end es (r .1) b in (suc (s .0), rw t (s .1)))
+
+module _ (ws : List ℕ) (c k : ℕ) where
+  heads-drop : (n : ℕ) (es : List ℕ) → headsAre ws c k es ≡ true → headsAre ws c k (drop n es) ≡ true
+  unfolding headsAre
+  heads-drop zero es h = h
+  heads-drop (suc n) [] h = h
+  heads-drop (suc n) (e ∷ es) h = heads-drop n es (and-left _ _ h)
+
+  heads-inside : (es : List ℕ) → k ≤ c → headsAre ws c k es ≡ true → k + length es ≤ c
+  unfolding headsAre
+  heads-inside [] l h = omega arith
+  heads-inside (e ∷ es) l h = omega (arith, ltb-true (k + length es) c (and-left _ _ (and-right (headsAre ws c k es) _ h)))
+
+  run-differs : (es : List ℕ) → (headsAre ws c k es ≡ true → ⊥) → toldRun ws c k es ≡ Differs
+  unfolding toldRun
+  run-differs es h = answer-no _ _ _ h
+
+  run-not : (es : List ℕ) → toldRun ws c k es ≡ Differs → headsAre ws c k es ≡ true → ⊥
+  unfolding toldRun
+  run-not es d = answer-differs (headsAre ws c k es) (k + length es) (before c k es) d
+
+  run-told : (es : List ℕ) {p l : ℕ} → toldRun ws c k es ≡ Same p l → (headsAre ws c k es ≡ true) × (p ≡ k + length es) × (l ≡ before c k es)
+  unfolding toldRun
+  run-told es h = answer-same (headsAre ws c k es) (k + length es) (before c k es) h
+
+-- where the comparison of a run stands: after is one more than the next end
+pub record Going (ws : List ℕ) (c : ℕ) (f : Field (List ℕ) ℕ) (ps : List ℕ) (k next head after : ℕ) : Type 0 where
+  pub heads : headsAre ws c k (done f ps after) ≡ true
+  pub past : next ≡ k + length (done f ps after)
+  pub low : head ≡ before c k (done f ps after)
+  pub end : (e : ℕ) → after ≡ suc e → In e (ends f ps)
+  pub inside : next ≤ c
+  pub small : after ≤ 4294967296
+
+pub going-start : (ws : List ℕ) (c : ℕ) (rules : List ℕ) (f : ℕ) (ps : List ℕ) (k after : ℕ) → k ≤ c → Lower rules f 4294967297 ps after → Going ws c (fieldAt rules f) ps k k c after
+unfolding headsAre before
+going-start ws c rules f ps k after l h =
+    let z : done (fieldAt rules f) ps after ≡ [] = rw (h .is) (done-start (fieldAt rules f) ps 4294967297 (λ e m. let q = h .words e m in omega arith)) in
+    record { heads = rw z; past = rw z (omega arith); low = rw z; end = λ e q. lower-in (fieldAt rules f) 4294967297 ps e (sym (h .is) ∙ q); inside = l; small = h .small }
+
+module _ {ws : List ℕ} {c : ℕ} {f : Field (List ℕ) ℕ} {ps : List ℕ} {k next head after : ℕ} (o : Going ws c f ps k next head after) where
+  pub going-end : after ≤ 0 → Same next head ≡ toldRun ws c k (ends f ps)
+  unfolding toldRun
+  going-end l =
+      let z = done-all f ps after (omega arith) in
+      rw (rw z at (o .past), rw z at (o .low), rw z at (o .heads))
+
+  module _ (p : 0 < after) where
+    more : done f ps (lower f after ps) ≡ (after - 1) ∷ done f ps after
+    more = let q : after ≡ suc (after - 1) = omega arith in done-step f ps after (after - 1) q (o .end (after - 1) q)
+
+    -- the next cell has to stand too
+    expected : headsAre ws c k (ends f ps) ≡ true → (ltb next c && headIs ws next (after - 1) head) ≡ true
+    unfolding headsAre
+    expected h =
+        let s = keep-end (ends f ps) (ends-rising f ps) (lower f after ps) in
+        let d = rw (sym (s .1) ∙ more) at (heads-drop ws c k (s .0) (ends f ps) h) in
+        rw (o .past, o .low) (and-right (headsAre ws c k (done f ps after)) _ d)
+
+    pub going-full : c ≤ next → Differs ≡ toldRun ws c k (ends f ps)
+    going-full l = sym (run-differs ws c k (ends f ps) (λ h. omega (arith, ltb-true next c (and-left _ _ (expected h)))))
+
+    pub going-no : {x : Bool} → x ≡ headIs ws next (after - 1) head → not x ≡ true → Differs ≡ toldRun ws c k (ends f ps)
+    going-no h d = sym (run-differs ws c k (ends f ps) (λ g. never (sym (and-right (ltb next c) _ (expected g)) ∙ was-no h d)))
+
+    pub going-on : {x : Bool} → next < c → x ≡ headIs ws next (after - 1) head → not x ≡ false → (r : ℕ) → r ≡ lower f after ps → r ≤ 4294967296 → Going ws c f ps k (next + 1) next r
+    unfolding headsAre before
+    going-on l h d r q small = record {
+      heads = rw (q, more) (and-both _ _ (o .heads) (rw (← o .past, ← o .low) (and-both _ _ (lt-ltb next c l) (was-yes h d))));
+      past = rw (q, more) (omega (arith, o .past));
+      low = rw (q, more) (o .past);
+      end = λ e z. lower-in f after ps e (sym q ∙ z);
+      inside = omega arith;
+      small = small;
+    }
+
+-- WHAT IS BELOW A RUN. The chain of the ends es, lowest first, with g e below the end e.
+module _ (g : ℕ → Tree ℕ) where
+  width-chain : (es : List ℕ) → width (chain g es) ≡ length es
+  unfolding width
+  width-chain [] = refl
+  width-chain (e ∷ es) = rw (width-chain es) (add-one (length es))
+
+  low-chain : (c k b : ℕ) (es : List ℕ) → low c (marks c (chain g es) b) k ≡ before c k es
+  unfolding low marks before
+  low-chain c k b [] = refl
+  low-chain c k b (e ∷ es) = ap (λ n. k + n) (marks-len c (chain g es) b ∙ width-chain es)
+
+  first-chain : (c k : ℕ) (es : List ℕ) → first c (chain g es) k ≡ before c k es
+  unfolding first before
+  first-chain c k [] = refl
+  first-chain c k (e ∷ es) = ap (λ n. k + n) (width-chain es)
+
+  parts-drop : (ws : List ℕ) (c k b n : ℕ) (es : List ℕ) → Parts ws c k b (chain g es) → Parts ws c k b (chain g (drop n es))
+  parts-drop ws c k b zero es p = p
+  parts-drop ws c k b (suc n) [] p = p
+  parts-drop ws c k b (suc n) (e ∷ es) p = parts-drop ws c k b n es (p .0)
+
+  parts-heads : (ws : List ℕ) (c k b : ℕ) (es : List ℕ) → Room ws c → Parts ws c k b (chain g es) → headsAre ws c k es ≡ true
+  unfolding headsAre
+  parts-heads ws c k b [] r p = refl
+  parts-heads ws c k b (e ∷ es) r p =
+      let w : k + width (chain g es) ≡ k + length es = rw (width-chain es) in
+      let h = rw (w, low-chain c k b es) at (p .1) in
+      and-both _ _ (parts-heads ws c k b es r (p .0)) (and-both _ _ (lt-ltb (k + length es) c (cell-inside ws _ _ _ _ h c r)) (cell-head ws _ _ _ _ h))
+
+  -- what stands there when the whole chain does
+  whole : (ws : List ℕ) (c k : ℕ) (es : List ℕ) → Held ws c (chain g es) k → Parts ws c k (k + length es) (chain g es)
+  whole ws c k es h = rw (width-chain es) at (text-parts ws c (chain g es) k _ h)
+
+-- where the comparison of what is below a run stands: cell i is next, and what is below it begins at cell b
+pub record Below (ws : List ℕ) (c : ℕ) (g : ℕ → Tree ℕ) (es : List ℕ) (k low end i b : ℕ) : Type 0 where
+  pub heads : headsAre ws c k es ≡ true
+  pub end-is : end ≡ k + length es
+  pub low-is : low ≡ before c k es
+  pub end-in : end ≤ c
+  pub from-k : k ≤ i
+  pub to-end : i ≤ end
+  pub past : b ≡ end + under (chain g (drop (end - i) es))
+  pub inside : b ≤ c
+  pub parts : Parts ws c k end (chain g (drop (end - i) es))
+
+pub below-start : (ws : List ℕ) (c : ℕ) (g : ℕ → Tree ℕ) (es : List ℕ) (k low end : ℕ) → k ≤ c → toldRun ws c k es ≡ Same end low → Below ws c g es k low end k end
+unfolding under
+below-start ws c g es k low end l h =
+    let v = run-told ws c k es h in
+    let z : drop (end - k) es ≡ [] = drop-of-length-le es {i = end - k} (omega (arith, v .1)) in
+    let i = heads-inside ws c k es l (v .0) in
+    record {
+      heads = v .0;
+      end-is = v .1;
+      low-is = v .2;
+      end-in = omega (arith, v .1);
+      from-k = omega arith;
+      to-end = omega (arith, v .1);
+      past = rw z (omega arith);
+      inside = omega (arith, v .1);
+      parts = rw z tt;
+    }
+
+pub below-none : (ws : List ℕ) (c : ℕ) (g : ℕ → Tree ℕ) (es : List ℕ) (k : ℕ) → Room ws c → toldRun ws c k es ≡ Differs → told ws c k (chain g es) ≡ Differs
+below-none ws c g es k r d = told-differs ws c (chain g es) k (λ h. run-not ws c k es d (parts-heads g ws c k (k + length es) es r (whole g ws c k es h)))
+
+module _ {ws : List ℕ} {c : ℕ} {g : ℕ → Tree ℕ} {es : List ℕ} {k low end i b : ℕ} (o : Below ws c g es k low end i b) where
+  pub below-end : end ≤ i → told ws c k (chain g es) ≡ Same b low
+  below-end l =
+      let z : end - i ≡ 0 = omega arith in
+      let p = rw (z, o .end-is) at (o .parts) in
+      let y : b ≡ k + cells (chain g es) = omega (arith, rw z at (o .past), o .end-is, cells-sum (chain g es), width-chain g es) in
+      rw (y, o .low-is, ← first-chain g c k es) (told-same ws c (chain g es) k (parts-held ws c (chain g es) k (rw (width-chain g es) p)))
+
+  module _ (r : Room ws c) (l : i < end) where
+    -- the ends that are done, highest first; and that of cell i
+    abbrev post : List ℕ
+    post = drop (end - i) es
+
+    abbrev e : ℕ
+    e = getD ws (2 + 8 * i) 0
+
+    at : k + length post ≡ i
+    at = omega (arith, length-drop (end - i) es)
+
+    cons : drop (end - i - 1) es ≡ getD es (end - i - 1) 0 ∷ post
+    cons =
+        let q : suc (end - i - 1) ≡ end - i = omega arith in
+        drop-cons es (end - i - 1) 0 (omega arith) ∙ ap (λ n. getD es (end - i - 1) 0 ∷ drop n es) q
+
+    from-here : headIs ws i (getD es (end - i - 1) 0) (before c k post) ≡ true
+    unfolding headsAre
+    from-here =
+        let h = rw cons at (heads-drop ws c k (end - i - 1) es (o .heads)) in
+        rw at at (and-right (ltb (k + length post) c) _ (and-right (headsAre ws c k post) _ h))
+
+    same-end : e ≡ getD es (end - i - 1) 0
+    unfolding headIs
+    same-end = rw add-zero at (eqb-true (word ws i 0) (getD es (end - i - 1) 0) (and-left _ _ from-here))
+
+    next : drop (end - i - 1) es ≡ e ∷ post
+    next = cons ∙ ap (λ x. x ∷ post) (sym same-end)
+
+    head : headIs ws i e (before c k post) ≡ true
+    head = rw same-end from-here
+
+    -- what has to stand at cell i and below it
+    expected-here : Held ws c (chain g es) k → Cell ws i e (before c k post) (first c (g e) b) × Held ws c (g e) b
+    expected-here h =
+        let p = rw next at (parts-drop g ws c k (k + length es) (end - i - 1) es (whole g ws c k es h)) in
+        let w : k + width (chain g post) ≡ i = rw (width-chain g post) at in
+        (rw (w, low-chain g c k (k + length es) post, ← o .end-is, ← o .past) at (p .1), rw (← o .end-is, ← o .past) at (p .2))
+
+    pub below-not : told ws c b (g e) ≡ Differs → told ws c k (chain g es) ≡ Differs
+    below-not d = told-differs ws c (chain g es) k (λ h. told-not ws c (g e) b d _ (expected-here h .1))
+
+    module _ (past down : ℕ) (u : told ws c b (g e) ≡ Same past down) where
+      pub below-no : restIs ws i down ≡ false → told ws c k (chain g es) ≡ Differs
+      below-no d = told-differs ws c (chain g es) k (λ h.
+          let v = told-held ws c (g e) b past down u in
+          never (sym (rw (v .2) (cell-others ws i e (before c k post) (first c (g e) b) (expected-here h .0))) ∙ d))
+
+      pub below-on : restIs ws i down ≡ true → Below ws c g es k low end (i + 1) past
+      unfolding under
+      below-on d =
+          let v = told-held ws c (g e) b past down u in
+          let q : end - (i + 1) ≡ end - i - 1 = omega arith in
+          let w : k + width (chain g post) ≡ i = rw (width-chain g post) at in
+          record {
+            heads = o .heads;
+            end-is = o .end-is;
+            low-is = o .low-is;
+            end-in = o .end-in;
+            from-k = omega arith;
+            to-end = omega arith;
+            past = rw (q, next) (omega (arith, v .1, o .past, cells-sum (g e)));
+            inside = told-inside ws c (g e) b past down u r (o .inside);
+            parts =
+                rw (q, next) (
+                  o .parts,
+                  rw (w, low-chain g c k end post, ← o .past, ← v .2) (cell-of ws c i e (before c k post) down r (omega arith) head d),
+                  rw (← o .past) (v .0),
+                );
+          }
+
+-- the same of the tree at places
+pub record Compared (ws : List ℕ) (c : ℕ) (rules ps : List ℕ) (f n k low end i b : ℕ) : Type 0 where
+  pub below : Below ws c (underAt rules f n ps) (ends (fieldAt rules f) ps) k low end i b
+
+module _ (ws : List ℕ) (c : ℕ) (rules ps : List ℕ) (f n k : ℕ) where
+  pub compared-none : (x : ℕ) → n ≡ 0 → x ≡ firstOf ps → Same k x ≡ told ws c k (treeAt rules f n ps)
+  unfolding marks row belows width first
+  compared-none x z q =
+      let y : k + 0 ≡ k = omega arith in
+      let h = told-same ws c (names (firstOf ps)) k (rw y) in
+      rw (tree-none rules f n ps z, q) (sym (rw y at h))
+
+  module _ (nz : n ≡ 0 → ⊥) where
+    pub compared-run : {a : Told} → Room ws c → a ≡ toldRun ws c k (ends (fieldAt rules f) ps) → a ≡ Differs → Differs ≡ told ws c k (treeAt rules f n ps)
+    compared-run r h d = rw (tree-step rules f n ps nz) (sym (below-none ws c (underAt rules f n ps) _ k r (sym h ∙ d)))
+
+    pub compared-start : {a : Told} {low end : ℕ} → k ≤ c → a ≡ toldRun ws c k (ends (fieldAt rules f) ps) → a ≡ Same end low → Compared ws c rules ps f n k low end k end
+    compared-start l h d = record { below = below-start ws c (underAt rules f n ps) _ k _ _ l (sym h ∙ d) }
+
+module _ {ws : List ℕ} {c : ℕ} {rules ps : List ℕ} {f n k low end i b : ℕ} (nz : n ≡ 0 → ⊥) (o : Compared ws c rules ps f n k low end i b) where
+  pub compared-end : end ≤ i → Same b low ≡ told ws c k (treeAt rules f n ps)
+  compared-end l = rw (tree-step rules f n ps nz) (sym (below-end (o .below) l))
+
+  module _ {places : List ℕ} {a : Told} (r : Room ws c) (l : i < end) (q : places ≡ keep (covers (fieldAt rules f) (getD ws (2 + 8 * i) 0)) ps) (h : a ≡ told ws c b (treeAt rules (f + 1) (n - 1) places)) where
+    pub compared-not : a ≡ Differs → Differs ≡ told ws c k (treeAt rules f n ps)
+    unfolding underAt
+    compared-not d = rw (tree-step rules f n ps nz) (sym (below-not (o .below) r l (rw q at (sym h ∙ d))))
+
+    module _ {past down : ℕ} {x : Bool} (u : a ≡ Same past down) (g : x ≡ restIs ws i down) where
+      pub compared-no : not x ≡ true → Differs ≡ told ws c k (treeAt rules f n ps)
+      unfolding underAt
+      compared-no d = rw (tree-step rules f n ps nz) (sym (below-no (o .below) r l past down (rw q at (sym h ∙ u)) (was-no g d)))
+
+      pub compared-on : not x ≡ false → Compared ws c rules ps f n k low end (i + 1) past
+      unfolding underAt
+      compared-on d = record { below = below-on (o .below) r l past down (rw q at (sym h ∙ u)) (was-yes g d) }
+
+-- THE FREE CHAIN
+module _ (ws : List ℕ) (c : ℕ) (r : Room ws c) (i : ℕ) where
+  -- whether the cells from i on are the free chain
+  abbrev pub Free : Bool
+  Free = same (from ws i) (frees i (c - i))
+
+  pub free-end : c ≤ i → true ≡ Free
+  unfolding frees
+  free-end l =
+      let z : c - i ≡ 0 = omega arith in
+      rw z (sym (true-same _ _ (drop-of-length-le ws {i = 2 + 8 * i} (omega (arith, r .size)))))
+
+  module _ (l : i < c) where
+    frees-cons : frees i (c - i) ≡ cell 0 (i + 1) 0 (frees (i + 1) (c - (i + 1)))
+    unfolding frees
+    frees-cons = let q : c - i ≡ suc (c - (i + 1)) = omega arith in rw q
+
+    free-here : from ws i ≡ frees i (c - i) → Cell ws i 0 (i + 1) 0
+    free-here h = cell-here ws i 0 (i + 1) 0 _ (h ∙ frees-cons)
+
+    pub free-no-head : {x : Bool} → x ≡ headIs ws i 0 (i + 1) → not x ≡ true → Free ≡ false
+    free-no-head a d = same-false _ _ (λ h. never (sym (cell-head ws i 0 (i + 1) 0 (free-here h)) ∙ was-no a d))
+
+    pub free-no-rest : {x : Bool} → x ≡ restIs ws i 0 → not x ≡ true → Free ≡ false
+    free-no-rest a d = same-false _ _ (λ h. never (sym (cell-others ws i 0 (i + 1) 0 (free-here h)) ∙ was-no a d))
+
+    pub free-on : {x y : Bool} → x ≡ headIs ws i 0 (i + 1) → not x ≡ false → y ≡ restIs ws i 0 → not y ≡ false → Free ≡ same (from ws (i + 1)) (frees (i + 1) (c - (i + 1)))
+    free-on a d b g =
+        let h = cell-of ws c i 0 (i + 1) 0 r l (was-yes a d) (was-yes b g) in
+        same-test _ _
+        (λ t. true-same _ _ (sym (cell-rest ws i 0 (i + 1) 0 _ (same-true _ _ t ∙ frees-cons))))
+        (λ t. true-same _ _ (h ∙ ap (cell 0 (i + 1) 0) (same-true _ _ t) ∙ sym frees-cons))
+
+-- THE WHOLE PART
+module _ (ws : List ℕ) (c : ℕ) (t : Tree ℕ) where
+  abbrev rest : List ℕ
+  rest = text c t 0 (frees (cells t) (c - cells t))
+
+  -- the three things that have to stand
+  taken : ws ≡ part c t → (getD ws 0 0 ≡ cells t) × (getD ws 1 0 ≡ first c t 0) × (from ws 0 ≡ rest)
+  unfolding part
+  taken h = (ap (λ l. getD l 0 0) h, ap (λ l. getD l 1 0) h, ap (drop 2) h)
+
+  made : (l : List ℕ) → 2 ≤ length l → l ≡ getD l 0 0 ∷ getD l 1 0 ∷ drop 2 l
+  made (x ∷ y ∷ l) h = refl
+  made (x ∷ []) h = absurd (omega arith)
+  made [] h = absurd (omega arith)
+
+  module _ {a : Told} (told-so : a ≡ told ws c 0 t) where
+    pub part-differs : a ≡ Differs → false ≡ same ws (part c t)
+    part-differs d = sym (same-false ws (part c t) (λ h. told-not ws c t 0 (sym told-so ∙ d) _ (taken h .2)))
+
+    module _ {past low : ℕ} (u : a ≡ Same past low) where
+      stood : Held ws c t 0 × (past ≡ 0 + cells t) × (low ≡ first c t 0)
+      stood = told-held ws c t 0 past low (sym told-so ∙ u)
+
+      ends-at : past ≡ cells t
+      ends-at = omega (arith, stood .1)
+
+      pub part-no-past : (getD ws 0 0 ≡ past → ⊥) → false ≡ same ws (part c t)
+      part-no-past d = sym (same-false ws (part c t) (λ h. d (taken h .0 ∙ sym ends-at)))
+
+      pub part-no-low : (getD ws 1 0 ≡ low → ⊥) → false ≡ same ws (part c t)
+      part-no-low d = sym (same-false ws (part c t) (λ h. d (taken h .1 ∙ sym (stood .2))))
+
+      pub part-rest : length ws ≡ 2 + 8 * c → getD ws 0 0 ≡ past → getD ws 1 0 ≡ low → (b : Bool) → b ≡ same (from ws past) (frees past (c - past)) → b ≡ same ws (part c t)
+      unfolding part
+      part-rest n p q b h =
+          let v = stood in
+          let z : 0 + cells t ≡ cells t = omega arith in
+          let hold : from ws 0 ≡ text c t 0 (from ws (cells t)) = rw z at (v .0) in
+          let behind : (r : List ℕ) → from ws 0 ≡ text c t 0 r → from ws (cells t) ≡ r = λ r g. sym (rw z at (text-rest ws c t 0 r g)) in
+          h ∙ rw ends-at (same-test _ _
+          (λ s. true-same ws (part c t) (made ws (omega arith) ∙ rw (p ∙ ends-at, q ∙ v .2) (ap (λ l. cells t ∷ first c t 0 ∷ l) (hold ∙ ap (λ l. text c t 0 l) (same-true _ _ s)))))
+          (λ s. true-same _ _ (behind _ (taken (same-true ws (part c t) s) .2))))

@@ -1,0 +1,148 @@
+// The lookup of a packet's values in a store's words, whatever they hold. It changes no word, and reads each cell on its way once.
+ghost use mathlib.Core.Path.{_≡_};
+ghost use Prim.Native.Nat.{_+_, _*_, _≤_};
+ghost use lib.ListN.{length};
+ghost use Rattle.lookup.specs.Walk.{seekOf, walkOf, refused, cellsIn, partIn, ruleIn, lookupOf, lookupValues};
+
+// What a lookup answers: 0, the number and the action of the rule that decides, and the cells that were read; or a refusal's number and zeros.
+#[repr(C)]
+pub struct Found {
+    pub answer: u32,
+    pub rule: u32,
+    pub action: u32,
+    pub reads: u32,
+}
+
+// Where a walk ends: it is led down to a place, which is a cell of the next field or a rule's place in the table, or it is lost.
+pub enum Walked {
+    At { place: u32, reads: u32 },
+    Lost,
+}
+
+// Walks one field: from the first cell along the chain, to the first end that is not below the value, over at most c cells.
+fn seek(part: &[u32], c: u32, first: u32, value: u32) -> Walked
+    requires { ⌜ (length (now part) ≡ 2 + 8 * c) × (c ≤ 65536) ⌝ }
+    ensures { λ r. ⌜ r ≡ seekOf (now (part .entry)) c value c first 0 ⌝ }
+{
+    let mut k = first;
+    let mut reads: u32 = 0;
+    while reads < c {
+        if c <= k {
+            return Walked::Lost;
+        }
+        let at = 2 + 8 * (k as usize);
+        if value <= part[at] {
+            return Walked::At {
+                place: part[at + 2],
+                reads: reads + 1,
+            };
+        }
+        k = part[at + 1];
+        reads += 1;
+    }
+    Walked::Lost
+}
+
+// Walks the part of a store that holds its c cells, one field for each value.
+fn walk(part: &[u32], c: u32, values: &[u32]) -> Walked
+    requires { ⌜ (length (now part) ≡ 2 + 8 * c) × (c ≤ 65536) × (length (now values) ≤ 64) ⌝ }
+    ensures { λ r. ⌜ r ≡ walkOf (now (part .entry)) c (now (values .entry)) ⌝ }
+{
+    let mut k = part[1];
+    let mut reads: u32 = 0;
+    let mut i: usize = 0;
+    while i < values.len() {
+        match seek(part, c, k, values[i]) {
+            Walked::Lost => return Walked::Lost,
+            Walked::At { place, reads: n } => {
+                k = place;
+                reads += n;
+            }
+        }
+        i += 1;
+    }
+    Walked::At { place: k, reads }
+}
+
+// A refusal: its number, and zeros.
+fn refuse(answer: u32) -> Found
+    ensures { λ r. ⌜ r ≡ refused answer ⌝ }
+{
+    Found {
+        answer,
+        rule: 0,
+        action: 0,
+        reads: 0,
+    }
+}
+
+// The rule at the place that the walk comes to, where the words are enough for their c cells.
+fn decide(words: &[u32], c: u32, values: &[u32]) -> Found
+    requires { ⌜ (c ≡ cellsIn (now words)) × (c ≤ 65536) × (1024 + 8 * c ≤ length (now words)) × (length (now values) ≤ 64) ⌝ }
+    ensures { λ r. ⌜ r ≡ ruleIn (now (words .entry)) (walkOf (partIn (now (words .entry))) c (now (values .entry))) ⌝ }
+{
+    let end = 1024 + 8 * (c as usize);
+    let Walked::At { place, reads } = walk(&words[1022..end], c, values) else {
+        return refuse(9);
+    };
+    if 64 < place {
+        return refuse(9);
+    }
+    if words[1] < place {
+        return refuse(9);
+    }
+    let row = 47 + 15 * (place as usize);
+    Found {
+        answer: 0,
+        rule: words[row],
+        action: words[row + 1],
+        reads,
+    }
+}
+
+// The lookup of some values, one for each field of the store: 9 at once where there are more than 64 of them, or where the words name no number of cells within its limits or are too few for it.
+pub fn lookup_slice(words: &[u32], values: &[u32]) -> Found
+    ensures { λ r. ⌜ r ≡ lookupOf (now (words .entry)) (now (values .entry)) ⌝ }
+{
+    if 64 < values.len() {
+        return refuse(9);
+    }
+    if words.len() < 1 {
+        return refuse(9);
+    }
+    let c = words[0];
+    if c < 5 {
+        return refuse(9);
+    }
+    if 65536 < c {
+        return refuse(9);
+    }
+    if words.len() < 1024 + 8 * (c as usize) {
+        return refuse(9);
+    }
+    decide(words, c, values)
+}
+
+// The lookup of a packet's five values: 11 where one is above its top. The two addresses have the whole range of a word.
+pub fn lookup(
+    words: &[u32],
+    destination: u32,
+    source: u32,
+    protocol: u32,
+    destination_port: u32,
+    source_port: u32,
+) -> Found
+    ensures { λ r. ⌜ r ≡ lookupValues (now (words .entry)) destination source protocol «destination_port» «source_port» ⌝ }
+{
+    if 255 < protocol {
+        return refuse(11);
+    }
+    if 65535 < destination_port {
+        return refuse(11);
+    }
+    if 65535 < source_port {
+        return refuse(11);
+    }
+    let values = [destination, source, protocol, destination_port, source_port];
+    lookup_slice(words, &values)
+}

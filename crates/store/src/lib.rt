@@ -1,0 +1,156 @@
+// A store: start, check, insert, delete, read, cells in use. Every promise is one equation for the answer and for every lent word, whatever the words hold.
+ghost use mathlib.Core.Path.{_≡_};
+ghost use mathlib.Core.List.{List, [], _++_};
+ghost use Prim.Native.Nat.{ℕ, _+_, _*_, _≤_};
+ghost use lib.ListN.{length, getD, take, drop, replicate};
+ghost use Rattle.model.specs.Lists.{same};
+ghost use Rattle.model.specs.Rules.{stop, cells as cellsOfTree};
+ghost use Rattle.model.specs.Table.{Table, withRule, without, cellsOf};
+ghost use Rattle.model.specs.Ipv4.{ipv4};
+ghost use Rattle.rows.specs.Rows.{treeAt};
+ghost use Rattle.cells.specs.Text.{part};
+ghost use Rattle.table.specs.Rows.{given, rowsText, places as placesOf};
+ghost use Rattle.store.specs.Store.{size, headText, text, cellsIn, rowsOf, partOf, tableOf, roomFor, passes, startAnswer, startWords, insertSays, insertWords, deleteSays, deleteWords, readSays, readGives, cellsSays, cellsGives};
+use table::Rule;
+
+// The top of each field.
+const TOPS: [u32; 5] = [4294967295, 4294967295, 255, 65535, 65535];
+
+// Whether c is within its limits and the words are enough for it.
+fn room_for(words: &[u32], c: u32) -> bool
+    ensures { λ r. ⌜ r ≡ roomFor ipv4 c (now (words .entry)) ⌝ }
+{
+    if c < 5 {
+        return false;
+    }
+    if 65536 < c {
+        return false;
+    }
+    1024 + 8 * (c as usize) <= words.len()
+}
+
+// Whether all words of a slice are 0.
+fn zeros(words: &[u32]) -> bool
+    ensures { λ r. ⌜ r ≡ same (now (words .entry)) (replicate (length (now (words .entry))) 0) ⌝ }
+{
+    let mut i: usize = 0;
+    while i < words.len() {
+        if words[i] != 0 {
+            return false;
+        }
+        i += 1;
+    }
+    true
+}
+
+// Whether the rows are those of a table of n rules within the limits.
+fn table_is(rows: &[u32], n: u32) -> bool
+    requires { ⌜ (length (now rows) ≡ 975) × (n ≤ 64) ⌝ }
+    ensures { λ r. ⌜ r ≡ tableStands ipv4 n (now (rows .entry)) ⌝ }
+{
+    if !table::rows_are(rows, n, &TOPS) {
+        return false;
+    }
+    if !table::rising(rows, n, &TOPS) {
+        return false;
+    }
+    table::all_right(rows, n, &TOPS)
+}
+
+// Whether the part of the words from the two links on is the tree of the n rules of the rows, and then the free chain.
+fn tree_is(words: &[u32], c: u32, rows: &[u32], n: u32) -> bool
+    requires { ⌜ (length (now words) ≡ 2 + 8 * c) × (c ≤ 65536) × (n ≤ 64) ⌝ }
+    ensures { λ r. ⌜ r ≡ same (now (words .entry)) (part c (treeAt (now (rows .entry)) 0 5 (placesOf n))) ⌝ }
+{
+    let mut set = [0u32; 65];
+    table::places(n, &mut set);
+    let m = (n as usize) + 1;
+    compare::part_is(words, c, rows, &set[..m], 5)
+}
+
+// Word i of the front: the number of cells, the number of rules, zeros, and the rows.
+fn front_word(c: u32, n: u32, rows: &[u32], i: usize) -> u32
+    ensures { λ r. ⌜ r ≡ getD (headText c n ++ now (rows .entry)) i 0 ⌝ }
+{
+    if i == 0 {
+        return c;
+    }
+    if i == 1 {
+        return n;
+    }
+    if i < 47 {
+        return 0;
+    }
+    let j = i - 47;
+    if j < rows.len() { rows[j] } else { 0 }
+}
+
+// Writes the front of a store: its head and its rows.
+fn write_front(words: &mut [u32], c: u32, n: u32, rows: &[u32])
+    requires { ⌜ (length (now words) ≡ 1022) × (length (now rows) ≡ 975) ⌝ }
+    ensures { λ _. ⌜ now (words .exit) ≡ headText c n ++ now (rows .entry) ⌝ }
+{
+    let mut i: usize = 0;
+    while i < 1022 {
+        words[i] = front_word(c, n, rows, i);
+        i += 1;
+    }
+}
+
+// Whether the rule behind the p rules that are ahead of a number has that number: so whether the number stands.
+fn stands_behind(rows: &[u32], n: u32, p: u32, number: u32) -> bool
+    requires { ⌜ (n ≤ 64) × (risingFrom 0 (tableIn ipv4 n (now rows) .rules) ≡ true) × (p ≡ ahead number (tableIn ipv4 n (now rows) .rules)) ⌝ }
+    ensures { λ r. ⌜ r ≡ stands number (tableIn ipv4 n (now (rows .entry)) .rules) ⌝ }
+{
+    if n <= p {
+        return false;
+    }
+    table::number(rows, p + 1) == number
+}
+
+// Whether the tree of the n rules of the rows has at most c locations.
+fn fits(rows: &[u32], n: u32, c: u32) -> bool
+    requires { ⌜ (n ≤ 64) × (c ≤ 65536) ⌝ }
+    ensures { λ r. ⌜ r ≡ leb (cellsOfTree (treeAt (now (rows .entry)) 0 5 (placesOf n))) c ⌝ }
+{
+    let mut set = [0u32; 65];
+    table::places(n, &mut set);
+    let m = (n as usize) + 1;
+    count::count_chain(rows, &set[..m], 0, 5, c) <= c
+}
+
+// What reading a rule gives: the answer, and the rule, or zeros with a refusal.
+pub struct Reading {
+    pub answer: u32,
+    pub rule: Rule,
+}
+
+fn refused(answer: u32) -> Reading
+    ensures { λ r. ⌜ (r .answer ≡ answer) × (given (r .rule) ≡ zeroRule) ⌝ }
+{
+    Reading {
+        answer,
+        rule: Rule {
+            number: 0,
+            action: 0,
+            low: [0, 0, 0, 0, 0],
+            high: [0, 0, 0, 0, 0],
+        },
+    }
+}
+
+fn found(rows: &[u32], place: u32) -> Reading
+    ensures { λ r. ⌜ (r .answer ≡ 0) × (given (r .rule) ≡ ruleIn 5 (now (rows .entry)) place) ⌝ }
+{
+    Reading {
+        answer: 0,
+        rule: table::rule_at(rows, place),
+    }
+}
+
+ghost use mathlib.Core.Bool.{true};
+ghost use lib.Dec.{leb};
+ghost use Rattle.model.specs.Table.{risingFrom, stands};
+ghost use Rattle.table.specs.Rows.{tableIn, ahead, ruleIn};
+ghost use Rattle.store.specs.Store.{zeroRule};
+ghost use Rattle.store.specs.Inner.{tableStands, Bare, Fits, laid};
