@@ -10,7 +10,7 @@ ghost use Rattle.model.specs.Ipv4.{ipv4};
 ghost use Rattle.rows.specs.Rows.{treeAt};
 ghost use Rattle.cells.specs.Text.{part};
 ghost use Rattle.table.specs.Rows.{given, rowsText, places as placesOf};
-ghost use Rattle.store.specs.Store.{size, headText, text, cellsIn, rowsOf, partOf, tableOf, roomFor, passes, startAnswer, startWords, insertSays, insertWords, deleteSays, deleteWords, readSays, readGives, cellsSays, cellsGives};
+ghost use Rattle.stored.specs.Store.{size, headText, text, cellsIn, rowsOf, partOf, tableOf, roomFor, passes, startAnswer, startWords, insertSays, insertWords, deleteSays, deleteWords, readSays, readGives, cellsSays, cellsGives};
 use table::Rule;
 
 // The top of each field.
@@ -68,6 +68,31 @@ fn tree_is(words: &[u32], c: u32, rows: &[u32], n: u32) -> bool
     compare::part_is(words, c, rows, &set[..m], 5)
 }
 
+// The store check.
+pub fn check(words: &[u32]) -> bool
+    ensures { λ r. ⌜ r ≡ passes ipv4 (now (words .entry)) ⌝ }
+{
+    if words.len() < 1024 {
+        return false;
+    }
+    let c = words[0];
+    if !room_for(words, c) {
+        return false;
+    }
+    let n = words[1];
+    if 64 < n {
+        return false;
+    }
+    if !zeros(&words[2..47]) {
+        return false;
+    }
+    if !table_is(&words[47..1022], n) {
+        return false;
+    }
+    let end = 1024 + 8 * (c as usize);
+    tree_is(&words[1022..end], c, &words[47..1022], n)
+}
+
 // Word i of the front: the number of cells, the number of rules, zeros, and the rows.
 fn front_word(c: u32, n: u32, rows: &[u32], i: usize) -> u32
     ensures { λ r. ⌜ r ≡ getD (headText c n ++ now (rows .entry)) i 0 ⌝ }
@@ -95,6 +120,19 @@ fn write_front(words: &mut [u32], c: u32, n: u32, rows: &[u32])
         words[i] = front_word(c, n, rows, i);
         i += 1;
     }
+}
+
+// Lays a table of n rules into a store whose cells are all free: its rows, and their tree.
+fn lay(words: &mut [u32], c: u32, n: u32, rows: &[u32])
+    requires { ⌜ Bare (now words) c × Fits (now rows) n c ⌝ }
+    ensures { λ _. ⌜ now (words .exit) ≡ laid c n (now (rows .entry)) (now (words .entry)) ⌝ }
+{
+    write_front(&mut words[..1022], c, n, rows);
+    let mut set = [0u32; 65];
+    table::places(n, &mut set);
+    let m = (n as usize) + 1;
+    let end = 1024 + 8 * (c as usize);
+    cells::plant(&mut words[1022..end], c, rows, &set[..m], 5);
 }
 
 // Whether the rule behind the p rules that are ahead of a number has that number: so whether the number stands.
@@ -152,5 +190,5 @@ ghost use mathlib.Core.Bool.{true};
 ghost use lib.Dec.{leb};
 ghost use Rattle.model.specs.Table.{risingFrom, stands};
 ghost use Rattle.table.specs.Rows.{tableIn, ahead, ruleIn};
-ghost use Rattle.store.specs.Store.{zeroRule};
-ghost use Rattle.store.specs.Inner.{tableStands, Bare, Fits, laid};
+ghost use Rattle.stored.specs.Store.{zeroRule};
+ghost use Rattle.stored.specs.Inner.{tableStands, Bare, Fits, laid};

@@ -1,3 +1,5 @@
 pub mod Named
 pub mod Words
 pub mod Bridge
+pub mod Parts
+pub mod Sound

@@ -4,7 +4,7 @@ use borrow.Author.Needs.{needs}
 use mathlib.Core.Path.{_≡_, sym, ap, _∙_}
 use native.Mathlib.Omega.{arith}
 use lib.ListN.{length}
-use Rattle.store.proofs.Words.{length-places, counted}
+use Rattle.stored.proofs.Parts.{length-places, counted}
 use Rattle.store.proofs.fits.Statement.{statement}
 use Rattle.store.proofs.fits.Tie as tie
 

@@ -4,7 +4,7 @@ use borrow.Author.Needs.{needs}
 use mathlib.Core.Path.{_≡_, sym, _∙_}
 use native.Mathlib.Omega.{arith}
 use lib.ListN.{List·getD-eq-default}
-use Rattle.store.proofs.Words.{head-c, head-n, head-zero, head-rows}
+use Rattle.stored.proofs.Parts.{head-c, head-n, head-zero, head-rows}
 use Rattle.store.proofs.front_word.Statement.{statement}
 use Rattle.store.proofs.front_word.Tie as tie
 

@@ -1,7 +1,7 @@
 -- `store::stands_behind` meets its contract.
 -- Assumes nothing.
 use borrow.Author.Needs.{needs}
-use Rattle.store.proofs.Words.{none-behind, number-behind}
+use Rattle.stored.proofs.Parts.{none-behind, number-behind}
 use Rattle.store.proofs.stands_behind.Statement.{statement}
 use Rattle.store.proofs.stands_behind.Tie as tie
 

@@ -1,7 +1,7 @@
 -- `store::table_is` meets its contract: the tests in their order.
 -- Assumes nothing.
 use borrow.Author.Needs.{needs}
-use Rattle.store.proofs.Words.{first-fails, second-fails, third-says}
+use Rattle.stored.proofs.Parts.{first-fails, second-fails, third-says}
 use Rattle.store.proofs.table_is.Statement.{statement}
 use Rattle.store.proofs.table_is.Tie as tie
 

@@ -8,8 +8,8 @@ use native.Mathlib.Omega.{arith}
 use lib.ListN.{length, getD, take, length-set}
 use Rattle.model.specs.Lists.{upTo}
 use Rattle.model.proofs.UpTo.{fill-start, fill-step, fill-end}
-use Rattle.store.specs.Store.{headText}
-use Rattle.store.proofs.Words.{front-whole}
+use Rattle.stored.specs.Store.{headText}
+use Rattle.stored.proofs.Parts.{front-whole}
 use Rattle.store.proofs.write_front.Statement.{statement}
 use Rattle.store.proofs.write_front.Tie as tie
 

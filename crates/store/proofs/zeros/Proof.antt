@@ -6,7 +6,7 @@ use borrow.Author.Needs.{needs}
 use borrow.Author.Count.{below-more}
 use native.Mathlib.Omega.{arith}
 use lib.ListN.{length, getD}
-use Rattle.store.proofs.Words.{all-zero, not-zero}
+use Rattle.stored.proofs.Parts.{all-zero, not-zero}
 use Rattle.store.proofs.zeros.Statement.{statement}
 use Rattle.store.proofs.zeros.Tie as tie
 

@@ -8,7 +8,8 @@ use native.Mathlib.Omega.{arith}
 use native.Mathlib.Numerals.{add-one}
 use lib.Dec.{leb, eqb}
 use lib.ListN.{length, getD, take, drop, replicate, length-append, length-take, length-drop, length-replicate, getD-replicate, List·getD-append, List·getD-eq-default}
-use lib.Seq.{ext-getD, take-at, drop-at, take-add, drop-drop, getD-append-add, getD-take, getD-drop, take-all}
+use lib.Seq.{ext-getD, take-at, drop-at, take-add, drop-drop, drop-append-add, getD-append-add, getD-take, getD-drop, take-all}
+use borrow.Rule.Slice.PartMut.{putMid, post-is}
 use borrow.Author.Tests.{not-true, not-false, eqb-true, eq-eqb}
 use Rattle.model.specs.Lists.{same, upTo}
 use Rattle.model.specs.Table.{Rule, risingFrom, stands}
@@ -19,7 +20,7 @@ use Rattle.rows.specs.Rows.{numberOf}
 use Rattle.table.specs.Rows.{noRule, tableIn, places, ahead}
 use Rattle.table.proofs.Laws.{rules-length, rules-at}
 use Rattle.table.proofs.Edits.{at-stands, stands-at}
-use Rattle.store.specs.Store.{size, headText, rowsOf, partOf}
+use Rattle.stored.specs.Store.{size, headText, rowsOf, partOf}
 
 -- rows of tests: the first that fails, and all that hold
 pub first-fails : {a A : Bool} (X : Bool) → a ≡ A → not a ≡ true → false ≡ (A && X)
@@ -127,3 +128,22 @@ module _ (n : ℕ) (rows : List ℕ) (p x : ℕ) (up : risingFrom 0 (tableIn ipv
       same-test (eqb y x) (stands x R)
       (λ t. stands-at x noRule R (omega (arith, rules-length ipv4 n rows)) (sym z ∙ eqb-true y x t))
       (λ t. eq-eqb y x (z ∙ at-stands x noRule 0 R up t .1))
+
+-- LAYING a table: the front is written, and then the part
+module _ (c n : ℕ) (ws rows front : List ℕ) (e : front ≡ headText c n ++ rows) (l : length rows ≡ 975) where
+  front-long : length front ≡ 1022
+  front-long = ap length e ∙ simp length-append (omega (arith, head-length c n []))
+
+  pub lay-part : take (1024 + 8 * c - 1022) (drop 1022 (front ++ drop 1022 ws)) ≡ partOf c ws
+  lay-part =
+      let z : 1024 + 8 * c - 1022 ≡ 2 + 8 * c = omega arith in
+      ap₂ take z (drop-at front (drop 1022 ws) 1022 front-long)
+
+  pub lay-whole : (p : List ℕ) → putMid 1022 (1024 + 8 * c - 1022) (front ++ drop 1022 ws) p ≡ headText c n ++ (rows ++ (p ++ drop (size c) ws))
+  lay-whole p =
+      let z : 1024 + 8 * c ≡ length front + (2 + 8 * c) = omega (arith, front-long) in
+      let y : 1022 + (2 + 8 * c) ≡ size c = omega arith in
+      ap₂ (λ xs ys. xs ++ (p ++ ys)) (take-at front (drop 1022 ws) 1022 front-long)
+      (post-is 1022 (1024 + 8 * c) (front ++ drop 1022 ws) (omega arith) ∙ ap (λ m. drop m (front ++ drop 1022 ws)) z ∙ drop-append-add front (drop 1022 ws) (2 + 8 * c) ∙ drop-drop (2 + 8 * c) 1022 ws ∙ ap (λ m. drop m ws) y)
+      ∙ ap (λ xs. xs ++ (p ++ drop (size c) ws)) e
+      ∙ append-assoc (headText c n) rows (p ++ drop (size c) ws)

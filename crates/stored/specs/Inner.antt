@@ -11,7 +11,7 @@ use Rattle.model.specs.Table.{Kind, risingFrom, allRight}
 use Rattle.rows.specs.Rows.{treeAt}
 use Rattle.cells.specs.Text.{part}
 use Rattle.table.specs.Rows.{rowsText, tableIn, places}
-use Rattle.store.specs.Store.{size, headText, partOf}
+use Rattle.stored.specs.Store.{size, headText, partOf}
 
 -- the rows are those of the table of n rules that they hold, and its numbers and ranges are within the limits
 abbrev pub tableStands : Kind → ℕ → List ℕ → Bool

@@ -6,23 +6,23 @@ use mathlib.Core.List.{List, [], _∷_, _++_}
 use Prim.Native.Nat.{ℕ, suc, _+_, _-_, _*_, _≤_, _<_}
 use native.Mathlib.Omega.{arith}
 use lib.Dec.{leb}
-use lib.ListN.{length, getD, take, drop, replicate, length-take}
-use borrow.Author.Tests.{leb-true, le-leb}
+use lib.ListN.{length, getD, take, drop, replicate, length-take, length-drop}
+use borrow.Author.Tests.{leb-true, le-leb, not-true, not-false}
 use Rattle.model.specs.Lists.{same}
 use Rattle.model.specs.Rules.{cells}
 use Rattle.model.specs.Table.{Table, within, risingFrom, allRight}
 use Rattle.model.specs.Ipv4.{ipv4}
 use Rattle.model.proofs.Tests.{by-test, never, and-left, and-right, and-both, same-test}
-use Rattle.model.proofs.UpTo.{same-true, true-same, same-false}
+use Rattle.model.proofs.UpTo.{same-true, true-same}
 use Rattle.rows.specs.Rows.{treeAt}
 use Rattle.cells.specs.Text.{part}
 use Rattle.table.specs.Rows.{rowsText, tableIn, places}
 use Rattle.table.proofs.Laws.{rules-length}
 use Rattle.stored.specs.Named.{stored}
 use Rattle.stored.proofs.Words.{rows-length}
-use Rattle.store.specs.Store.{size, headText, text, cellsIn, rowsOf, partOf, tableOf, roomFor, passes}
-use Rattle.store.specs.Inner.{tableStands}
-use Rattle.store.proofs.Words.{head-length, split-equal, in-three, rows-long, head-of, zeros-of}
+use Rattle.stored.specs.Store.{size, headText, text, cellsIn, rowsOf, partOf, tableOf, roomFor, passes}
+use Rattle.stored.specs.Inner.{tableStands}
+use Rattle.stored.proofs.Parts.{head-length, split-equal, in-three, rows-long, head-of, zeros-of}
 
 -- the parts of a store that passes
 pub record Sound (ws : List ℕ) : Type 0 where
@@ -94,3 +94,41 @@ module _ (ws : List ℕ) where
   -- the answer no
   pub unsound : (Sound ws → ⊥) → false ≡ passes ipv4 ws
   unsound h = by-test (passes ipv4 ws) (λ t. absurd (h (sound t))) (λ t. sym t)
+
+-- the tests of the check, in its order
+module _ (ws : List ℕ) where
+  pub check-short : length ws < 1024 → false ≡ passes ipv4 ws
+  check-short h = unsound ws (λ s. omega (arith, roomy (cellsIn ws) ws (s .room) .long))
+
+  pub check-room : {b : Bool} → b ≡ roomFor ipv4 (cellsIn ws) ws → not b ≡ true → false ≡ passes ipv4 ws
+  check-room {b} e t = unsound ws (λ s. never (sym (e ∙ s .room) ∙ not-true b t))
+
+  pub check-few : 64 < getD ws 1 0 → false ≡ passes ipv4 ws
+  check-few h = unsound ws (λ s. omega (arith, s .few))
+
+  module _ (room : roomFor ipv4 (cellsIn ws) ws ≡ true) where
+    zeros-same : same (take 45 (drop 2 ws)) (replicate (length (take 45 (drop 2 ws))) 0) ≡ same (take 45 (drop 2 ws)) (replicate 45 0)
+    zeros-same = let z : length (take 45 (drop 2 ws)) ≡ 45 = simp (length-take, length-drop) (omega (arith, roomy (cellsIn ws) ws room .long)) in rw z
+
+    pub check-zeros : {b : Bool} → b ≡ same (take 45 (drop 2 ws)) (replicate (length (take 45 (drop 2 ws))) 0) → not b ≡ true → false ≡ passes ipv4 ws
+    check-zeros {b} e t = unsound ws (λ s. never (sym (e ∙ zeros-same ∙ true-same _ _ (s .zeros)) ∙ not-true b t))
+
+    pub check-table : {b : Bool} → b ≡ tableStands ipv4 (getD ws 1 0) (rowsOf ws) → not b ≡ true → false ≡ passes ipv4 ws
+    check-table {b} e t = unsound ws (λ s. never (sym (e ∙ and-both (same (rowsOf ws) (rowsText ipv4 (tableOf ipv4 ws))) _ (true-same _ _ (s .rows)) (and-both (risingFrom 0 (tableOf ipv4 ws .rules)) _ (s .rising) (s .right))) ∙ not-true b t))
+
+    pub check-tree : {a b d : Bool} → getD ws 1 0 ≤ 64 → a ≡ same (take 45 (drop 2 ws)) (replicate (length (take 45 (drop 2 ws))) 0) → not a ≡ false
+        → b ≡ tableStands ipv4 (getD ws 1 0) (rowsOf ws) → not b ≡ false
+        → d ≡ same (partOf (cellsIn ws) ws) (part (cellsIn ws) (treeAt (rowsOf ws) 0 5 (places (getD ws 1 0)))) → d ≡ passes ipv4 ws
+    check-tree {a} {b} {d} few ea ta eb tb ed =
+        let w = sym eb ∙ not-false b tb in
+        let v = and-right (same (rowsOf ws) (rowsText ipv4 (tableOf ipv4 ws))) _ w in
+        same-test d (passes ipv4 ws)
+        (λ t. sound-passes ws (record {
+          room = room;
+          few = few;
+          zeros = same-true _ _ (sym zeros-same ∙ sym ea ∙ not-false a ta);
+          rows = same-true _ _ (and-left (same (rowsOf ws) (rowsText ipv4 (tableOf ipv4 ws))) _ w);
+          rising = and-left (risingFrom 0 (tableOf ipv4 ws .rules)) _ v;
+          right = and-right (risingFrom 0 (tableOf ipv4 ws .rules)) _ v;
+          tree = same-true _ _ (sym ed ∙ t) }))
+        (λ t. ed ∙ true-same _ _ (sound ws t .tree))
