@@ -135,6 +135,32 @@ fn lay(words: &mut [u32], c: u32, n: u32, rows: &[u32])
     cells::plant(&mut words[1022..end], c, rows, &set[..m], 5);
 }
 
+// Starts a store of c cells that holds the default rule alone, with an action.
+pub fn start(words: &mut [u32], c: u32, action: u32) -> u32
+    ensures { λ r. ⌜ (r ≡ startAnswer ipv4 (now (words .entry)) c) × (now (words .exit) ≡ startWords ipv4 (now (words .entry)) c action) ⌝ }
+{
+    if !room_for(words, c) {
+        return 8;
+    }
+    let end = 1024 + 8 * (c as usize);
+    cells::clear(&mut words[1022..end], c);
+    let mut rows = [0u32; 975];
+    table::fresh(action, &TOPS, &mut rows);
+    lay(words, c, 0, &rows);
+    0
+}
+
+// Puts a table of n rules in the place of the one that a store holds.
+fn edit(words: &mut [u32], n: u32, rows: &[u32])
+    requires { ⌜ (passes ipv4 (now words) ≡ true) × Fits (now rows) n (cellsIn (now words)) ⌝ }
+    ensures { λ _. ⌜ now (words .exit) ≡ laid (cellsIn (now (words .entry))) n (now (rows .entry)) (now (words .entry)) ⌝ }
+{
+    let c = words[0];
+    let end = 1024 + 8 * (c as usize);
+    cells::drop(&mut words[1022..end], c, 5);
+    lay(words, c, n, rows);
+}
+
 // Whether the rule behind the p rules that are ahead of a number has that number: so whether the number stands.
 fn stands_behind(rows: &[u32], n: u32, p: u32, number: u32) -> bool
     requires { ⌜ (n ≤ 64) × (risingFrom 0 (tableIn ipv4 n (now rows) .rules) ≡ true) × (p ≡ ahead number (tableIn ipv4 n (now rows) .rules)) ⌝ }
@@ -184,6 +210,22 @@ fn found(rows: &[u32], place: u32) -> Reading
         answer: 0,
         rule: table::rule_at(rows, place),
     }
+}
+
+// What counting the cells gives: the answer, and the cells in use, or 0 with a refusal.
+pub struct Count {
+    pub answer: u32,
+    pub cells: u32,
+}
+
+// Counts the cells in use.
+pub fn cells(words: &[u32]) -> Count
+    ensures { λ r. ⌜ (r .answer ≡ cellsSays ipv4 (now (words .entry))) × (r .cells ≡ cellsGives ipv4 (now (words .entry))) ⌝ }
+{
+    if !check(words) {
+        return Count { answer: 9, cells: 0 };
+    }
+    Count { answer: 0, cells: words[1022] }
 }
 
 ghost use mathlib.Core.Bool.{true};
