@@ -183,6 +183,83 @@ fn fits(rows: &[u32], n: u32, c: u32) -> bool
     count::count_chain(rows, &set[..m], 0, 5, c) <= c
 }
 
+// What insert answers; where that is 0, the new rows are written.
+fn try_insert(words: &[u32], rule: Rule, rows: &mut [u32]) -> u32
+    requires { ⌜ length (now rows) ≡ 975 ⌝ }
+    ensures { λ r. ⌜ (r ≡ insertSays ipv4 (now (words .entry)) (given rule)) × (r ≡ 0 → now (rows .exit) ≡ rowsText ipv4 (withRule (given rule) (tableOf ipv4 (now (words .entry))))) ⌝ }
+{
+    if !check(words) {
+        return 9;
+    }
+    let number = rule.number;
+    if 65534 < number {
+        return 1;
+    }
+    let row = table::row_of(rule);
+    if !table::right(&row, 0, &TOPS) {
+        return 2;
+    }
+    let n = words[1];
+    let p = table::before(&words[47..1022], n, &TOPS, number);
+    if stands_behind(&words[47..1022], n, p, number) {
+        return 3;
+    }
+    if 64 <= n {
+        return 5;
+    }
+    table::put(&words[47..1022], p + 1, &row, rows);
+    let c = words[0];
+    if fits(rows, n + 1, c) { 0 } else { 6 }
+}
+
+// Inserts a rule.
+pub fn insert(words: &mut [u32], rule: Rule) -> u32
+    ensures { λ r. ⌜ (r ≡ insertSays ipv4 (now (words .entry)) (given rule)) × (now (words .exit) ≡ insertWords ipv4 (now (words .entry)) (given rule)) ⌝ }
+{
+    let mut rows = [0u32; 975];
+    let answer = try_insert(words, rule, &mut rows);
+    if answer != 0 {
+        return answer;
+    }
+    let n = words[1];
+    edit(words, n + 1, &rows);
+    0
+}
+
+// What delete answers; where that is 0, the new rows are written.
+fn try_delete(words: &[u32], number: u32, rows: &mut [u32]) -> u32
+    requires { ⌜ length (now rows) ≡ 975 ⌝ }
+    ensures { λ r. ⌜ (r ≡ deleteSays ipv4 (now (words .entry)) number) × (r ≡ 0 → now (rows .exit) ≡ rowsText ipv4 (without number (tableOf ipv4 (now (words .entry))))) ⌝ }
+{
+    if !check(words) {
+        return 9;
+    }
+    if 65534 < number {
+        return 1;
+    }
+    let n = words[1];
+    let p = table::before(&words[47..1022], n, &TOPS, number);
+    if !stands_behind(&words[47..1022], n, p, number) {
+        return 4;
+    }
+    table::take_out(&words[47..1022], p + 1, rows);
+    0
+}
+
+// Deletes the rule of a number.
+pub fn delete(words: &mut [u32], number: u32) -> u32
+    ensures { λ r. ⌜ (r ≡ deleteSays ipv4 (now (words .entry)) number) × (now (words .exit) ≡ deleteWords ipv4 (now (words .entry)) number) ⌝ }
+{
+    let mut rows = [0u32; 975];
+    let answer = try_delete(words, number, &mut rows);
+    if answer != 0 {
+        return answer;
+    }
+    let n = words[1];
+    edit(words, n - 1, &rows);
+    0
+}
+
 // What reading a rule gives: the answer, and the rule, or zeros with a refusal.
 pub struct Reading {
     pub answer: u32,
@@ -210,6 +287,27 @@ fn found(rows: &[u32], place: u32) -> Reading
         answer: 0,
         rule: table::rule_at(rows, place),
     }
+}
+
+// Reads the rule of a number; the default under 65,535.
+pub fn read(words: &[u32], number: u32) -> Reading
+    ensures { λ r. ⌜ (r .answer ≡ readSays ipv4 (now (words .entry)) number) × (given (r .rule) ≡ readGives ipv4 (now (words .entry)) number) ⌝ }
+{
+    if !check(words) {
+        return refused(9);
+    }
+    if number == 65535 {
+        return found(&words[47..1022], 0);
+    }
+    if 65534 < number {
+        return refused(1);
+    }
+    let n = words[1];
+    let p = table::before(&words[47..1022], n, &TOPS, number);
+    if !stands_behind(&words[47..1022], n, p, number) {
+        return refused(4);
+    }
+    found(&words[47..1022], p + 1)
 }
 
 // What counting the cells gives: the answer, and the cells in use, or 0 with a refusal.
