@@ -11,10 +11,13 @@ use lib.Dec.{ltb}
 use lib.ListN.{length, getD, take, drop, drop-of-length-le, List·getD-eq-default}
 use lib.Seq.{drop-cons}
 use borrow.Author.Tests.{lt-ltb, le-ltb, le-leb, lt-leb}
+use Rattle.header.specs.declared.Packet.{Packet}
+use Rattle.header.specs.declared.Header.the-variants.{Values, Unreadable}
+use Rattle.header.specs.Header.{headerOf}
 use Rattle.cells.specs.Text.{word}
 use Rattle.lookup.specs.declared.Walked.{Walked}
 use Rattle.lookup.specs.declared.Walked.the-variants.{At, Lost}
-use Rattle.lookup.specs.Walk.{seekOf, onFrom, throughOf, walkOf, refused, cellsIn, partIn, ruleIn, lookupOf, lookupValues}
+use Rattle.lookup.specs.Walk.{seekOf, onFrom, throughOf, walkOf, refused, cellsIn, partIn, ruleIn, lookupOf, lookupValues, lookupHeader, lookupPacket}
 
 module _ (w : List ℕ) (c v : ℕ) where
   -- one cell of a field, where m more may be read
@@ -135,3 +138,13 @@ module _ (w : List ℕ) (d s p dp sp : ℕ) (hd : d ≤ 4294967295) (hs : s ≤ 
     pub values-right : sp ≤ 65535 → lookupOf w (d ∷ s ∷ p ∷ dp ∷ sp ∷ []) ≡ lookupValues w d s p dp sp
     unfolding lookupValues
     values-right h = simp (le-leb d _ hd, le-leb s _ hs, le-leb p 255 a, le-leb dp 65535 b, le-leb sp 65535 h)
+
+-- a packet, by what its header is
+module _ (w packet : List ℕ) where
+  pub no-values : Unreadable ≡ headerOf packet → refused 7 ≡ lookupPacket w packet
+  unfolding lookupPacket
+  no-values e = ap (lookupHeader w) e
+
+  pub by-values : (p : Packet) → Values p ≡ headerOf packet → lookupHeader w (Values p) ≡ lookupPacket w packet
+  unfolding lookupPacket
+  by-values p e = ap (lookupHeader w) e

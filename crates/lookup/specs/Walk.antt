@@ -7,6 +7,9 @@ use lib.Dec.{ltb, leb}
 use lib.ListN.{length, getD, take, drop}
 use Rattle.model.specs.Table.{packetRight}
 use Rattle.model.specs.Ipv4.{ipv4}
+use Rattle.header.specs.declared.Header.{Header}
+use Rattle.header.specs.declared.Header.the-variants.{Values, Unreadable}
+use Rattle.header.specs.Header.{headerOf}
 use Rattle.cells.specs.Text.{word}
 use Rattle.lookup.specs.declared.Found.{Found}
 use Rattle.lookup.specs.declared.Walked.{Walked}
@@ -68,3 +71,12 @@ lookupValues words destination source protocol destinationPort sourcePort =
     cond (packetRight ipv4 (destination ∷ source ∷ protocol ∷ destinationPort ∷ sourcePort ∷ []))
     (lookupOf words (destination ∷ source ∷ protocol ∷ destinationPort ∷ sourcePort ∷ []))
     (refused 11)
+
+-- THE LOOKUP BY AN IPV4 PACKET: "Where the header gives no values, no lookup is begun and the answer is 7"; else the lookup by the header's five values
+abbrev pub lookupHeader : List ℕ → Header → Found
+lookupHeader words Unreadable = refused 7
+lookupHeader words (Values p) =
+    lookupValues words (p .destination) (p .source) (p .protocol) (p .«destination_port») (p .«source_port»)
+
+unfoldable pub lookupPacket : List ℕ → List ℕ → Found
+lookupPacket words packet = lookupHeader words (headerOf packet)

@@ -1,8 +1,9 @@
-// The lookup of a packet's values in a store's words, whatever they hold. It changes no word, and reads each cell on its way once.
+// The lookup of a packet, or of its values, in a store's words, whatever they hold. It changes no word, and reads each cell on its way once.
 ghost use mathlib.Core.Path.{_≡_};
 ghost use Prim.Native.Nat.{_+_, _*_, _≤_};
 ghost use lib.ListN.{length};
-ghost use Rattle.lookup.specs.Walk.{seekOf, walkOf, refused, cellsIn, partIn, ruleIn, lookupOf, lookupValues};
+ghost use Rattle.lookup.specs.Walk.{seekOf, walkOf, refused, cellsIn, partIn, ruleIn, lookupOf, lookupValues, lookupPacket};
+use header::Header;
 
 // What a lookup answers: 0, the number and the action of the rule that decides, and the cells that were read; or a refusal's number and zeros.
 #[repr(C)]
@@ -145,4 +146,21 @@ pub fn lookup(
     }
     let values = [destination, source, protocol, destination_port, source_port];
     lookup_slice(words, &values)
+}
+
+// The lookup of an IPv4 packet, whose bytes begin at its header: 7 where that gives no values, and no lookup is begun.
+pub fn lookup_packet(words: &[u32], packet: &[u8]) -> Found
+    ensures { λ r. ⌜ r ≡ lookupPacket (now (words .entry)) (now (packet .entry)) ⌝ }
+{
+    let Header::Values(p) = header::read_header(packet) else {
+        return refuse(7);
+    };
+    lookup(
+        words,
+        p.destination,
+        p.source,
+        p.protocol,
+        p.destination_port,
+        p.source_port,
+    )
 }

@@ -311,6 +311,7 @@ pub fn read(words: &[u32], number: u32) -> Reading
 }
 
 // What counting the cells gives: the answer, and the cells in use, or 0 with a refusal.
+#[repr(C)]
 pub struct Count {
     pub answer: u32,
     pub cells: u32,

@@ -1,0 +1,117 @@
+// The C face of the library, as include/reamstork.h declares it: exported functions and nothing else. Each says, for every input, what it returns and what every lent word then holds.
+ghost use mathlib.Core.Path.{_≡_};
+ghost use Rattle.model.specs.Ipv4.{ipv4};
+ghost use Rattle.prefix.specs.Prefix.{rangeOf};
+ghost use Rattle.stored.specs.Store.{startAnswer, startWords, insertSays, insertWords, deleteSays, deleteWords, readSays, readGives, cellsSays, cellsGives};
+ghost use Rattle.lookup.specs.Walk.{lookupValues, lookupPacket};
+ghost use Rattle.reamstork.specs.Face.{ruleOf, ruleRead, checkSays};
+use lookup::Found;
+use prefix::Range;
+use store::Count;
+use table::Rule;
+
+// What reading a rule gives: the answer, and the rule, or zeros with a refusal.
+#[repr(C)]
+pub struct Reading {
+    pub answer: u32,
+    pub number: u32,
+    pub action: u32,
+    pub low: [u32; 5],
+    pub high: [u32; 5],
+}
+
+// Starts a store of c cells without a named action: 1, forward.
+#[no_mangle]
+pub extern "C" fn reamstork_start(words: &mut [u32], c: u32) -> u32
+    ensures { λ r. ⌜ (r ≡ startAnswer ipv4 (now (words .entry)) c) × (now (words .exit) ≡ startWords ipv4 (now (words .entry)) c 1) ⌝ }
+{
+    store::start(words, c, 1)
+}
+
+// Starts a store of c cells whose default rule has an action.
+#[no_mangle]
+pub extern "C" fn reamstork_start_with(words: &mut [u32], c: u32, action: u32) -> u32
+    ensures { λ r. ⌜ (r ≡ startAnswer ipv4 (now (words .entry)) c) × (now (words .exit) ≡ startWords ipv4 (now (words .entry)) c action) ⌝ }
+{
+    store::start(words, c, action)
+}
+
+// Inserts a rule.
+#[no_mangle]
+pub extern "C" fn reamstork_insert(words: &mut [u32], number: u32, action: u32, low: &[u32; 5], high: &[u32; 5]) -> u32
+    ensures { λ r. ⌜ (r ≡ insertSays ipv4 (now (words .entry)) (ruleOf number action (now (low .entry)) (now (high .entry)))) × (now (words .exit) ≡ insertWords ipv4 (now (words .entry)) (ruleOf number action (now (low .entry)) (now (high .entry)))) ⌝ }
+{
+    let rule = Rule {
+        number,
+        action,
+        low: *low,
+        high: *high,
+    };
+    store::insert(words, rule)
+}
+
+// Deletes the rule of a number.
+#[no_mangle]
+pub extern "C" fn reamstork_delete(words: &mut [u32], number: u32) -> u32
+    ensures { λ r. ⌜ (r ≡ deleteSays ipv4 (now (words .entry)) number) × (now (words .exit) ≡ deleteWords ipv4 (now (words .entry)) number) ⌝ }
+{
+    store::delete(words, number)
+}
+
+// The store check: 0 where the store passes, else 9.
+#[no_mangle]
+pub extern "C" fn reamstork_check(words: &[u32]) -> u32
+    ensures { λ r. ⌜ r ≡ checkSays (now (words .entry)) ⌝ }
+{
+    if store::check(words) { 0 } else { 9 }
+}
+
+// Reads the rule of a number; the default under 65,535.
+#[no_mangle]
+pub extern "C" fn reamstork_read(words: &[u32], number: u32) -> Reading
+    ensures { λ r. ⌜ (r .answer ≡ readSays ipv4 (now (words .entry)) number) × (ruleRead r ≡ readGives ipv4 (now (words .entry)) number) ⌝ }
+{
+    let read = store::read(words, number);
+    let rule = read.rule;
+    let low = rule.low;
+    let high = rule.high;
+    Reading {
+        answer: read.answer,
+        number: rule.number,
+        action: rule.action,
+        low,
+        high,
+    }
+}
+
+// Counts the cells in use.
+#[no_mangle]
+pub extern "C" fn reamstork_cells(words: &[u32]) -> Count
+    ensures { λ r. ⌜ (r .answer ≡ cellsSays ipv4 (now (words .entry))) × (r .cells ≡ cellsGives ipv4 (now (words .entry))) ⌝ }
+{
+    store::cells(words)
+}
+
+// Looks five values up.
+#[no_mangle]
+pub extern "C" fn reamstork_lookup(words: &[u32], destination: u32, source: u32, protocol: u32, destination_port: u32, source_port: u32) -> Found
+    ensures { λ r. ⌜ r ≡ lookupValues (now (words .entry)) destination source protocol «destination_port» «source_port» ⌝ }
+{
+    lookup::lookup(words, destination, source, protocol, destination_port, source_port)
+}
+
+// Looks an IPv4 packet up, whose bytes begin at its header.
+#[no_mangle]
+pub extern "C" fn reamstork_lookup_packet(words: &[u32], packet: &[u8]) -> Found
+    ensures { λ r. ⌜ r ≡ lookupPacket (now (words .entry)) (now (packet .entry)) ⌝ }
+{
+    lookup::lookup_packet(words, packet)
+}
+
+// Turns an address prefix into a range.
+#[no_mangle]
+pub extern "C" fn reamstork_prefix(address: u32, length: u32) -> Range
+    ensures { λ r. ⌜ r ≡ rangeOf address length ⌝ }
+{
+    prefix::range_of(address, length)
+}
