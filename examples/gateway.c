@@ -1,0 +1,91 @@
+/*
+ * gateway.c - the firmware's loop, in small
+ *
+ * Loads a table of rules into a static store, decides frames and counts
+ * them by action.  No heap and no input: it prints gateway.expected.
+ *
+ *     cc -std=c11 -Iinclude examples/gateway.c libreamstork.a -o gateway
+ */
+#include <inttypes.h>
+#include <stdio.h>
+
+#include "reamstork.h"
+
+enum action { DROP, FORWARD, QUEUE_POSITION, QUEUE_SERVICE, ACTIONS };
+
+static const char *const action_names[ACTIONS] = { "drop", "forward", "queue position", "queue service" };
+
+#define IP(a, b, c, d) ((uint32_t)(a) << 24 | (uint32_t)(b) << 16 | (uint32_t)(c) << 8 | (uint32_t)(d))
+#define ANY_PROTOCOL 0, REAMSTORK_TOP_PROTOCOL
+#define ANY_PORT 0, REAMSTORK_TOP_PORT
+
+/* Destination and source as prefixes, then the other three ranges but the source port. */
+static const struct {
+	uint32_t number, action;
+	uint32_t to, to_length, from, from_length, protocol_low, protocol_high, port_low, port_high;
+} table[] = {
+	{ 10, QUEUE_POSITION, IP(10,0,0,0), 24, IP(10,0,8,0), 22, 17, 17, 5000, 5009 },
+	{ 20, QUEUE_SERVICE, IP(10,0,0,0), 25, IP(192,168,1,0), 24, 6, 6, 22, 22 },
+	{ 30, DROP, IP(10,0,0,0), 8, IP(192,168,0,0), 16, ANY_PROTOCOL, ANY_PORT },
+	{ 40, DROP, IP(10,0,0,1), 24, 0, 0, ANY_PROTOCOL, ANY_PORT },	/* no prefix: refused by 10 */
+	{ 20, DROP, 0, 0, 0, 0, ANY_PROTOCOL, ANY_PORT },		/* number taken: refused by 3 */
+};
+
+/* Frames behind the link header: IPv4 header, then the ports. */
+static const struct {
+	size_t len;
+	uint8_t bytes[28];
+} frames[] = {
+	{ 28, { 0x45,0,0,28, 0,1,0x40,0, 64,17,0,0, 10,0,9,7, 10,0,0,5, 0x9c,0x40,0x13,0x8c, 0,8,0,0 } },	/* UDP, port 5004 */
+	{ 28, { 0x45,0,0,28, 0,2,0x40,0, 64,17,0,0, 10,0,9,7, 10,0,0,5, 0x9c,0x40,0x13,0x92, 0,8,0,0 } },	/* UDP, port 5010 */
+	{ 24, { 0x45,0,0,24, 0,3,0x40,0, 64,6,0,0, 192,168,1,9, 10,0,0,5, 0x9c,0x40,0,22 } },		/* TCP, port 22 */
+	{ 24, { 0x45,0,0,24, 0,4,0x40,0, 64,6,0,0, 192,168,2,9, 10,0,0,5, 0x9c,0x40,0,22 } },		/* another network */
+	{ 24, { 0x45,0,0,24, 0,5,0,100, 64,17,0,0, 10,0,9,7, 10,0,0,5, 1,2,3,4 } },			/* later fragment */
+	{ 20, { 0x45,0,0,20, 0,6,0x40,0, 64,1,0,0, 10,0,9,7, 172,16,0,1 } },				/* ICMP */
+	{ 19, { 0x45,0,0,28, 0,7,0x40,0, 64,17,0,0, 10,0,9,7, 10,0,0 } },				/* cut short */
+	{ 24, { 0x60,0,0,24, 0,8,0x40,0, 64,6,0,0, 10,0,9,7, 10,0,0,5, 0,1,0,2 } },			/* not version 4 */
+};
+
+static uint32_t store[REAMSTORK_WORDS(1920)];
+static const size_t store_len = sizeof store / sizeof store[0];
+
+static uint32_t load(size_t i)
+{
+	reamstork_range to = reamstork_prefix(table[i].to, table[i].to_length);
+	reamstork_range from = reamstork_prefix(table[i].from, table[i].from_length);
+	const uint32_t low[] = { to.low, from.low, table[i].protocol_low, table[i].port_low, 0 };
+	const uint32_t high[] = { to.high, from.high, table[i].protocol_high, table[i].port_high, REAMSTORK_TOP_PORT };
+
+	if (to.answer != REAMSTORK_DONE || from.answer != REAMSTORK_DONE)
+		return REAMSTORK_BAD_PREFIX;
+	return reamstork_insert(store, store_len, table[i].number, table[i].action, low, high);
+}
+
+int main(void)
+{
+	uint32_t counts[ACTIONS] = { 0 }, unreadable = 0, worst = 0;
+
+	if (reamstork_start_with(store, store_len, 1920, FORWARD) != REAMSTORK_DONE)
+		return 1;
+	for (size_t i = 0; i < sizeof table / sizeof table[0]; i++)
+		printf("rule %" PRIu32 ": %" PRIu32 "\n", table[i].number, load(i));
+	printf("cells in use: %" PRIu32 "\n", reamstork_cells(store, store_len).cells);
+
+	for (size_t i = 0; i < sizeof frames / sizeof frames[0]; i++) {
+		reamstork_found f = reamstork_lookup_packet(store, store_len, frames[i].bytes, frames[i].len);
+
+		if (f.answer == REAMSTORK_UNREADABLE)
+			unreadable++;
+		else if (f.answer == REAMSTORK_BAD_STORE || f.action >= ACTIONS)
+			return 1;	/* the words were damaged: load them again */
+		else
+			counts[f.action]++;
+		if (f.reads > worst)
+			worst = f.reads;
+		printf("frame %zu: answer %" PRIu32 ", rule %" PRIu32 ", reads %" PRIu32 "\n", i + 1, f.answer, f.rule, f.reads);
+	}
+	for (int a = 0; a < ACTIONS; a++)
+		printf("%s: %" PRIu32 "\n", action_names[a], counts[a]);
+	printf("unreadable: %" PRIu32 "\nmost reads: %" PRIu32 "\n", unreadable, worst);
+	return 0;
+}

@@ -1,0 +1,320 @@
+/*
+ * reamstork.h - a packet filter for gateways with a timing sheet
+ *
+ * A store holds a table of rules and a search tree built from it, in
+ * words that the caller lends.  A lookup names the rule that decides a
+ * packet and says how many cells of the tree it read.
+ *
+ * This header is the manual.  It needs <stddef.h> and <stdint.h> and
+ * nothing else.  The library allocates nothing, keeps no state between
+ * calls and never blocks; of a C library it needs at most what a compiler
+ * may ask for by itself, memcpy, memmove, memset and memcmp.
+ *
+ *     static uint32_t store[REAMSTORK_WORDS(1920)];
+ *     size_t len = sizeof store / sizeof store[0];
+ *
+ *     reamstork_start(store, len, 1920);
+ *     reamstork_insert(store, len, 10, 2, low, high);
+ *     reamstork_found f = reamstork_lookup_packet(store, len, frame, n);
+ *     if (f.answer == REAMSTORK_DONE) switch (f.action) { ... }
+ *
+ *
+ * WHAT EVERY CALL PROMISES
+ *
+ *  - It ends, for all words, bytes, rules and sizes that it is handed.
+ *  - It reads and writes only inside what it was lent.  No call relies on
+ *    the caller having looked: words damaged in battery-backed memory, or
+ *    written by somebody else, are taken like any other.
+ *  - What it cannot take it refuses by a number from the table below.
+ *    0 means done.  A refusal gives 0 in every other number of its answer
+ *    and changes no word.
+ *  - The answer, and all words afterwards, are a function of the arguments
+ *    and of what they point to.  The same call on the same words always
+ *    gives the same answer and leaves the same words.
+ *
+ *
+ * WHAT THE CALLER MUST KEEP
+ *
+ * These cannot be seen from inside a call.  If one is broken, nothing is
+ * promised.
+ *
+ *  - `words` points to at least `len` words of 32 bits, aligned as
+ *    uint32_t is; `packet` points to at least `packet_len` bytes; `low`
+ *    and `high` point to five words each.  No pointer is null, not even
+ *    with a length of 0.
+ *  - A call that writes its words (start, start_with, insert, delete) has
+ *    them to itself while it runs: no other thread, interrupt or device
+ *    reads or writes them, and `low` and `high` do not lie within them.
+ *  - While any other call runs nobody writes its words or its packet, and
+ *    the two do not overlap.  Any number of such calls may run at once
+ *    over the same words.
+ *
+ *
+ * RULES
+ *
+ * A packet has five values, a rule a range for each, both ends belonging
+ * to it, in this order:
+ *
+ *     place   field                 top
+ *       0     destination address   4,294,967,295
+ *       1     source address        4,294,967,295
+ *       2     protocol              255
+ *       3     destination port      65,535
+ *       4     source port           65,535
+ *
+ * Numbers are in the machine's own order: 10.0.0.1 is 167,772,161.  A
+ * range from 0 to the top is full: it holds every value.
+ *
+ * A rule has a number, 0 to 65,534, and an action, any 32-bit number,
+ * whose meaning is the caller's.  A table has at most 64 rules, no two
+ * with the same number, and besides them the default rule: number 65,535,
+ * full ranges, and the action given at the start.
+ *
+ * A packet is decided by the rule with the least number among those whose
+ * five ranges all hold its values.  The default always holds them.
+ *
+ *
+ * CELLS AND READS
+ *
+ * The ends of a rule in a field are its high end and, if its low end is
+ * above 0, the low end less 1.  The tree has in field 0 one location for
+ * each distinct end of all rules, the default included, and below each
+ * location the tree, over the next fields, of the rules that cover it.
+ * One location takes one cell.  The default alone takes 5.
+ *
+ * A lookup in a store that passes the check reads, in each field, one cell
+ * and one more for each distinct end below the packet's value, taken over
+ * the rules whose ranges hold its earlier values: with n rules at most
+ * 2 n + 1 in each field.  The count of reads is a function of the table
+ * and the packet.
+ *
+ * A lookup touches the cells that it counts and a fixed number of words
+ * besides.  check, and with it insert, delete, read and cells, goes over
+ * all cells of the store; insert and delete then build the tree anew.
+ *
+ * The words of a store are a function of c, the default's action and the
+ * rules.  Two stores with the same of these have the same words, bit for
+ * bit, whatever edits brought them there, and can be compared by memcmp
+ * or a checksum.  docs/ has the layout.
+ */
+#ifndef REAMSTORK_H
+#define REAMSTORK_H
+
+#include <stddef.h>
+#include <stdint.h>
+
+#ifdef __cplusplus
+extern "C" {
+#endif
+
+/*
+ * LIMITS
+ */
+#define REAMSTORK_FIELDS           5            /* values of a packet       */
+#define REAMSTORK_RULES_MAX        64           /* rules besides the default */
+#define REAMSTORK_NUMBER_MAX       65534        /* greatest number of a rule */
+#define REAMSTORK_DEFAULT          65535        /* number of the default     */
+#define REAMSTORK_DEFAULT_ACTION   1            /* of reamstork_start        */
+#define REAMSTORK_CELLS_MIN        5            /* least c                   */
+#define REAMSTORK_CELLS_MAX        65536        /* greatest c                */
+
+/* The greatest value in each field. */
+#define REAMSTORK_TOP_ADDRESS      4294967295u
+#define REAMSTORK_TOP_PROTOCOL     255
+#define REAMSTORK_TOP_PORT         65535
+
+/*
+ * The words of a store of c cells, a constant where c is one.  For c
+ * within the limits it does not overflow.  Words behind these are never
+ * read or written, so `len` may be greater.
+ */
+#define REAMSTORK_WORDS(c)         (1024ul + 8ul * (c))
+
+/*
+ * ANSWERS
+ *
+ * Each is given exactly when its condition holds and none that stands
+ * before it in the call's own order does.
+ */
+#define REAMSTORK_DONE             0
+#define REAMSTORK_BAD_NUMBER       1   /* rule number above 65,534 (see read) */
+#define REAMSTORK_BAD_RANGE        2   /* low end above high, high above top  */
+#define REAMSTORK_NUMBER_TAKEN     3   /* insert: number already there        */
+#define REAMSTORK_NO_SUCH_NUMBER   4   /* delete, read: number not there      */
+#define REAMSTORK_TABLE_FULL       5   /* insert: 64 rules stand already      */
+#define REAMSTORK_NO_ROOM          6   /* insert: new tree takes more than c  */
+#define REAMSTORK_UNREADABLE       7   /* packet not readable                 */
+#define REAMSTORK_BAD_SIZE         8   /* start: c outside, or too few words  */
+#define REAMSTORK_BAD_STORE        9   /* store fails the check               */
+#define REAMSTORK_BAD_PREFIX       10  /* length above 32, or address askew   */
+#define REAMSTORK_BAD_VALUE        11  /* lookup: a value above its top       */
+/* 12 is an answer of the bench program alone: capture not accepted. */
+
+typedef struct { uint32_t answer, rule, action, reads; } reamstork_found;
+typedef struct { uint32_t answer, number, action, low[5], high[5]; } reamstork_rule;
+typedef struct { uint32_t answer, cells; } reamstork_count;
+typedef struct { uint32_t answer, low, high; } reamstork_range;
+
+/*
+ * START A STORE
+ *
+ * Makes the first REAMSTORK_WORDS(c) of the words, whatever they hold, a
+ * store of c cells with the default rule alone.  reamstork_start gives the
+ * default action 1 (forward), reamstork_start_with the action named.
+ *
+ *   8  c is below 5 or above 65,536, or len below REAMSTORK_WORDS(c)
+ *   0  done
+ *
+ * Done: the first REAMSTORK_WORDS(c) words are the new store, every word
+ * behind them is as before.  Refused: all words are as before.
+ */
+uint32_t reamstork_start(uint32_t *words, size_t len, uint32_t c);
+uint32_t reamstork_start_with(uint32_t *words, size_t len, uint32_t c, uint32_t action);
+
+/*
+ * INSERT A RULE
+ *
+ *   9  the store fails the check
+ *   1  number above 65,534
+ *   2  in some field low above high, or high above the field's top
+ *   3  a rule with this number is there
+ *   5  64 rules besides the default are there
+ *   6  the tree of the table with the new rule has more locations than
+ *      the store has cells
+ *   0  done
+ *
+ * in this order: the answer is the first whose condition holds.
+ *
+ * Done: the store holds the rules that it held and this one, passes the
+ * check, and every word behind it is as before.  Refused: all words are as
+ * before; an insert is never done halfway.
+ *
+ * Two rules may have equal ranges.  Whether 6 is given does not depend on
+ * the order in which rules were inserted, and neither do the words left.
+ */
+uint32_t reamstork_insert(uint32_t *words, size_t len, uint32_t number, uint32_t action, const uint32_t low[5], const uint32_t high[5]);
+
+/*
+ * DELETE A RULE
+ *
+ *   9  the store fails the check
+ *   1  number above 65,534: the default cannot be deleted
+ *   4  no rule with this number is there
+ *   0  done
+ *
+ * in this order.  Done: the store holds the rules that it held without
+ * this one, passes the check, uses no more cells than before, and every
+ * word behind it is as before.  Refused: all words are as before.
+ */
+uint32_t reamstork_delete(uint32_t *words, size_t len, uint32_t number);
+
+/*
+ * CHECK A STORE
+ *
+ *   0  the words are those of a store: word 0 is a c of 5 to 65,536, len
+ *      is at least REAMSTORK_WORDS(c), and the first REAMSTORK_WORDS(c)
+ *      words hold a table within the limits above, its tree, and every
+ *      other cell on the free chain once, laid as docs/ has it
+ *   9  otherwise
+ *
+ * Every store that an accepted start, insert or delete leaves passes.
+ * Changes no word.  insert, delete, read and cells run it first.
+ */
+uint32_t reamstork_check(const uint32_t *words, size_t len);
+
+/*
+ * READ A RULE
+ *
+ *   9  the store fails the check
+ *   1  number above 65,535
+ *   4  no rule with this number is there
+ *   0  done: number, action and ranges of the rule with this number;
+ *      65,535 gives the default
+ *
+ * in this order.  Changes no word.
+ */
+reamstork_rule reamstork_read(const uint32_t *words, size_t len, uint32_t number);
+
+/*
+ * COUNT THE CELLS IN USE
+ *
+ *   9  the store fails the check
+ *   0  done: cells is the number of locations of the table's tree, 5 to c
+ *
+ * The other cells are free: in use and free add up to c.  Changes no word.
+ */
+reamstork_count reamstork_cells(const uint32_t *words, size_t len);
+
+/*
+ * LOOK UP FIVE VALUES
+ *
+ *  11  protocol above 255, or a port above 65,535
+ *   9  the walk is lost, see below
+ *   0  done: number and action of the rule that decides, and the cells
+ *      that were read
+ *
+ * in this order.  Changes no word.
+ *
+ * A lookup does not run the check.  In a store that passes it 9 is never
+ * given, and the rule and the reads are those said at the top.  Over any
+ * other words the answer follows the walk:
+ *
+ *   Words.  Word 0 is c.  9 at once unless len is at least 1, c is 5 to
+ *   65,536, and len is at least REAMSTORK_WORDS(c).
+ *
+ *   Fields.  The walk begins at the cell that word 1023 names and goes
+ *   through the five fields in order.  Cell k is the words 1024 + 8 k on:
+ *   its end, the next cell, and what is below it.  9 at a cell that is c
+ *   or more.  A cell whose end is below the field's value leads to the
+ *   next cell; the first other one leads down, to the cell where the next
+ *   field begins.  9 after c cells of one field that all led to the next.
+ *
+ *   Rule.  The last field leads down to a place p in the table.  9 if p
+ *   is above word 1 or above 64.  The rule's number and action are the
+ *   words 47 + 15 p and 48 + 15 p.
+ *
+ *   Reads.  The number of cells so read, at most 5 c.
+ */
+reamstork_found reamstork_lookup(const uint32_t *words, size_t len, uint32_t destination, uint32_t source, uint32_t protocol, uint32_t destination_port, uint32_t source_port);
+
+/*
+ * LOOK UP AN IPV4 PACKET
+ *
+ * `packet` begins at the IPv4 header.
+ *
+ *   7  packet not readable
+ *   9  as in reamstork_lookup
+ *   0  as in reamstork_lookup, for the values that the header gives
+ *
+ * in this order.  Changes neither words nor packet.
+ *
+ * A packet is not readable exactly when one of these holds: packet_len is
+ * below 20; the version is not 4; the header length is below 5 words; the
+ * total length is below the header's; packet_len is below the total
+ * length; the protocol is 6 or 17, the fragment offset is 0, and the total
+ * length leaves fewer than 4 bytes behind the header.
+ *
+ * Where the protocol is 6 or 17 and the fragment offset is 0 the ports are
+ * the first two 16-bit numbers behind the header, source first.  Otherwise
+ * both are 0: for other protocols, and for later fragments.  Bytes past
+ * the total length, options and checksums are ignored.
+ */
+reamstork_found reamstork_lookup_packet(const uint32_t *words, size_t len, const uint8_t *packet, size_t packet_len);
+
+/*
+ * TURN AN ADDRESS PREFIX INTO A RANGE
+ *
+ *  10  length above 32, or address not a multiple of 2^(32 - length)
+ *   0  done: low is the address, high the address plus
+ *      2^(32 - length) - 1
+ *
+ * 10.0.0.0 of length 24 gives 10.0.0.0 to 10.0.0.255; 10.0.0.1 of length
+ * 24 gives 10; 0.0.0.0 of length 0 gives the full range.
+ */
+reamstork_range reamstork_prefix(uint32_t address, uint32_t length);
+
+#ifdef __cplusplus
+}
+#endif
+
+#endif

@@ -1,0 +1,27 @@
+/*
+ * plain.h - the calls of reamstork.h under names of their own
+ *
+ * Plain C of the same design, not proved: what the proved library is
+ * measured against and compared with.  Each call answers and leaves, bit
+ * for bit, what the one of the same name in reamstork.h does.
+ *
+ * With PLAIN_AS_REAMSTORK defined when plain.c is compiled it has the
+ * library's own names, and can be linked in the library's place.
+ */
+#ifndef PLAIN_H
+#define PLAIN_H
+
+#include "reamstork.h"
+
+uint32_t plain_start(uint32_t *words, size_t len, uint32_t c);
+uint32_t plain_start_with(uint32_t *words, size_t len, uint32_t c, uint32_t action);
+uint32_t plain_insert(uint32_t *words, size_t len, uint32_t number, uint32_t action, const uint32_t low[5], const uint32_t high[5]);
+uint32_t plain_delete(uint32_t *words, size_t len, uint32_t number);
+uint32_t plain_check(const uint32_t *words, size_t len);
+reamstork_rule plain_read(const uint32_t *words, size_t len, uint32_t number);
+reamstork_count plain_cells(const uint32_t *words, size_t len);
+reamstork_found plain_lookup(const uint32_t *words, size_t len, uint32_t destination, uint32_t source, uint32_t protocol, uint32_t destination_port, uint32_t source_port);
+reamstork_found plain_lookup_packet(const uint32_t *words, size_t len, const uint8_t *packet, size_t packet_len);
+reamstork_range plain_prefix(uint32_t address, uint32_t length);
+
+#endif

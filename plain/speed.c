@@ -1,0 +1,292 @@
+/*
+ * speed.c - the library beside plain C
+ *
+ *     speed                          times, as a table
+ *     speed count NAME CALL WHICH    lookups for callgrind, see speed.sh
+ *
+ * Both run in turns over the same words, with the same rules and packets,
+ * so that neither has better memory or a quieter moment.  A figure is the
+ * median over the rounds; the ratio is the median of each round's ratio,
+ * the library's time over that of plain C.
+ */
+#define _POSIX_C_SOURCE 199309L
+#include <stdio.h>
+#include <stdlib.h>
+#include <string.h>
+#include <time.h>
+
+#include "tables.h"
+
+enum { ROUNDS = 21, PACKETS = 1024, COLD = 24, OTHER = 8 << 20 };
+
+struct library {
+	uint32_t (*insert)(uint32_t *, size_t, uint32_t, uint32_t, const uint32_t *, const uint32_t *);
+	uint32_t (*delete)(uint32_t *, size_t, uint32_t);
+	uint32_t (*check)(const uint32_t *, size_t);
+	reamstork_found (*lookup)(const uint32_t *, size_t, uint32_t, uint32_t, uint32_t, uint32_t, uint32_t);
+	reamstork_found (*lookup_packet)(const uint32_t *, size_t, const uint8_t *, size_t);
+};
+
+static const struct library both[2] = {
+	{ reamstork_insert, reamstork_delete, reamstork_check, reamstork_lookup, reamstork_lookup_packet },
+	{ plain_insert, plain_delete, plain_check, plain_lookup, plain_lookup_packet },
+};
+
+static _Alignas(64) uint32_t words[REAMSTORK_WORDS(65536)];
+static _Alignas(64) uint32_t tiny[REAMSTORK_WORDS(5)];
+static struct rule rules[64];
+static uint32_t values[PACKETS][5];
+static uint8_t packets[PACKETS][28];
+static _Alignas(64) uint8_t other[OTHER];
+static volatile uint32_t sink;
+static uint32_t rule_count;
+static size_t len;
+
+static double now(void)
+{
+	struct timespec t;
+
+	clock_gettime(CLOCK_MONOTONIC, &t);
+	return (double)t.tv_sec * 1e9 + (double)t.tv_nsec;
+}
+
+static void fail(const char *why)
+{
+	fprintf(stderr, "speed: %s\n", why);
+	exit(1);
+}
+
+static void by_values(const struct library *l, double *took)
+{
+	uint32_t sum = 0;
+	double from = now();
+
+	for (int i = 0; i < PACKETS; i++) {
+		const uint32_t *v = values[i];
+
+		sum += l->lookup(words, len, v[0], v[1], v[2], v[3], v[4]).rule;
+	}
+	took[0] = (now() - from) / PACKETS;
+	sink = sum;
+}
+
+static void by_packet(const struct library *l, double *took)
+{
+	uint32_t sum = 0;
+	double from = now();
+
+	for (int i = 0; i < PACKETS; i++)
+		sum += l->lookup_packet(words, len, packets[i], sizeof packets[i]).rule;
+	took[0] = (now() - from) / PACKETS;
+	sink = sum;
+}
+
+/* Lookups after 8 MiB of other reads each; with warm code only the words are cold. */
+static void after_others(const struct library *l, double *took, int warm_code)
+{
+	static uint32_t calls;
+	uint32_t sum = 0, at = calls++ / 2 * COLD;
+	double empty = now();
+
+	empty = now() - empty;
+	took[0] = 0;
+	for (int i = 0; i < COLD; i++) {
+		const uint32_t *v = values[(at + i) % PACKETS];
+		double from;
+
+		for (size_t j = 0; j < OTHER; j += 64)
+			sum += other[j];
+		sink = sum;
+		if (warm_code)
+			sum += l->lookup(tiny, REAMSTORK_WORDS(5), v[0], v[1], v[2], v[3], v[4]).rule;
+		from = now();
+		sum += l->lookup(words, len, v[0], v[1], v[2], v[3], v[4]).rule;
+		took[0] += (now() - from - empty) / COLD;
+	}
+	sink = sum;
+}
+
+static void cold(const struct library *l, double *took)
+{
+	after_others(l, took, 0);
+}
+
+static void cold_words(const struct library *l, double *took)
+{
+	after_others(l, took, 1);
+}
+
+static void check(const struct library *l, double *took)
+{
+	enum { TIMES = 4 };
+	double from = now();
+
+	for (int i = 0; i < TIMES; i++)
+		if (l->check(words, len) != 0)
+			fail("the check does not pass");
+	took[0] = (now() - from) / TIMES;
+}
+
+/* Takes rules out and puts them in again, one after the other. */
+static void edits(const struct library *l, double *took)
+{
+	enum { TIMES = 8 };
+
+	took[0] = took[1] = 0;
+	for (uint32_t i = 0; i < TIMES; i++) {
+		const struct rule *r = &rules[i * (rule_count - 1) / (TIMES - 1)];
+		double a = now(), b;
+		uint32_t wrong = l->delete(words, len, r->number);
+
+		b = now();
+		wrong |= l->insert(words, len, r->number, r->action, r->low, r->high);
+		if (wrong)
+			fail("an edit is refused");
+		took[0] += (now() - b) / TIMES;
+		took[1] += (b - a) / TIMES;
+	}
+}
+
+static int rising(const void *a, const void *b)
+{
+	double x = *(const double *)a, y = *(const double *)b;
+
+	return (x > y) - (x < y);
+}
+
+static double median(double *x)
+{
+	qsort(x, ROUNDS, sizeof *x, rising);
+	return x[ROUNDS / 2];
+}
+
+/* Rounds of one thing, which gives one or two figures. */
+static void measure(void (*thing)(const struct library *, double *), int figures, const char *const *names)
+{
+	double took[2][2][ROUNDS], ratio[2][ROUNDS], t[2];
+
+	thing(&both[0], t);
+	thing(&both[1], t);
+	for (int i = 0; i < ROUNDS; i++) {
+		for (int j = 0; j < 2; j++) {
+			int which = (i + j) % 2;
+
+			thing(&both[which], t);
+			for (int k = 0; k < figures; k++)
+				took[k][which][i] = t[k];
+		}
+		for (int k = 0; k < figures; k++)
+			ratio[k][i] = took[k][0][i] / took[k][1][i];
+	}
+	for (int k = 0; k < figures; k++)
+		printf("  %-24s %12.1f ns %12.1f ns %8.2f\n", names[k], median(took[k][0]), median(took[k][1]), median(ratio[k]));
+}
+
+/* A table in the words, and packets for it. */
+static void draw_sample(uint32_t n, uint32_t c, uint32_t budget, int overlap)
+{
+	seed = 20261115;
+	len = REAMSTORK_WORDS(c);
+	rule_count = n;
+	draw_table(words, len, c, rules, n, budget, overlap);
+	for (int i = 0; i < PACKETS; i++) {
+		draw_values(values[i], rules, n);
+		write_packet(packets[i], values[i]);
+	}
+}
+
+static void same_answer(reamstork_found a, reamstork_found b)
+{
+	if (a.answer != 0 || memcmp(&a, &b, sizeof a) != 0)
+		fail("the answers differ");
+}
+
+/* Says what the sample is, and that both libraries answer alike. */
+static void describe(uint32_t n, uint32_t c)
+{
+	uint32_t most = 0, least = UINT32_MAX;
+	uint64_t reads = 0;
+
+	for (int i = 0; i < PACKETS; i++) {
+		const uint32_t *v = values[i];
+		reamstork_found f = plain_lookup(words, len, v[0], v[1], v[2], v[3], v[4]);
+
+		same_answer(f, reamstork_lookup(words, len, v[0], v[1], v[2], v[3], v[4]));
+		same_answer(f, reamstork_lookup_packet(words, len, packets[i], sizeof packets[i]));
+		same_answer(f, plain_lookup_packet(words, len, packets[i], sizeof packets[i]));
+		reads += f.reads;
+		if (f.reads < least)
+			least = f.reads;
+		if (f.reads > most)
+			most = f.reads;
+	}
+	printf("%u rules, c = %u, %u cells in use; reads %u to %u, mean %.1f\n", n, c, plain_cells(words, len).cells, least, most, (double)reads / PACKETS);
+}
+
+static void times(uint32_t n, uint32_t c, uint32_t budget, int overlap)
+{
+	static const char *const names[] = { "lookup by values", "lookup by packet", "lookup, cold caches", "lookup, cold words only", "check" };
+	static const char *const edit_names[] = { "insert", "delete" };
+
+	draw_sample(n, c, budget, overlap);
+	describe(n, c);
+	printf("  %-24s %12s    %12s    %8s\n", "", "library", "plain C", "ratio");
+	measure(by_values, 1, &names[0]);
+	measure(by_packet, 1, &names[1]);
+	measure(cold, 1, &names[2]);
+	measure(cold_words, 1, &names[3]);
+	measure(check, 1, &names[4]);
+	measure(edits, 2, edit_names);
+	printf("\n");
+	fflush(stdout);
+}
+
+/*
+ * For callgrind, which counts inside one lookup's function only: all
+ * packets once, or the one of the least or of the most reads.  Says how
+ * many lookups that was and how many reads.  What is needed to prepare it
+ * is looked up in the other library, so that it is not counted.
+ */
+static int lookups(const char *name, const char *call, const char *which)
+{
+	int plain = strcmp(name, "plain") == 0, bytes = strcmp(call, "packet") == 0;
+	int first = 0, past = PACKETS;
+	uint32_t reads[PACKETS], sum = 0;
+
+	draw_sample(60, 1920, 1900, 0);
+	for (int i = 0; i < PACKETS; i++) {
+		const uint32_t *v = values[i];
+
+		reads[i] = both[!plain].lookup(words, len, v[0], v[1], v[2], v[3], v[4]).reads;
+		if (strcmp(which, "least") == 0 && reads[i] < reads[first])
+			first = i;
+		if (strcmp(which, "most") == 0 && reads[i] > reads[first])
+			first = i;
+	}
+	if (strcmp(which, "all") != 0)
+		past = first + 1;
+	for (int i = first; i < past; i++) {
+		const uint32_t *v = values[i];
+
+		if (bytes)
+			sum += both[plain].lookup_packet(words, len, packets[i], sizeof packets[i]).reads;
+		else
+			sum += both[plain].lookup(words, len, v[0], v[1], v[2], v[3], v[4]).reads;
+	}
+	printf("%d %u\n", past - first, sum);
+	return 0;
+}
+
+int main(int argc, char **argv)
+{
+	if (argc == 5 && strcmp(argv[1], "count") == 0)
+		return lookups(argv[2], argv[3], argv[4]);
+	memset(other, 1, sizeof other);
+	plain_start(tiny, REAMSTORK_WORDS(5), 5);
+	times(10, 1920, 400, 0);
+	times(60, 1920, 1900, 0);
+	times(10, 65536, 400, 0);
+	times(60, 65536, 1900, 0);
+	times(60, 65536, 60000, 1);
+	return 0;
+}

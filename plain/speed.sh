@@ -1,0 +1,93 @@
+#!/bin/sh
+# The library beside plain C, in one run.
+#
+#     sh plain/speed.sh ARCHIVE
+#     sh plain/speed.sh plain        plain C in the library's place: what
+#                                    the measurement itself is good for
+#
+# ARCHIVE is the library for this machine's processor.  CC names the
+# compiler (cc), which compiles plain C with -O3; LIBS what else the archive
+# wants to be linked with.  Where valgrind is there the instructions of a
+# lookup are counted too.
+set -eu
+
+if [ $# -ne 1 ]; then
+	echo "usage: sh speed.sh ARCHIVE" >&2
+	exit 2
+fi
+here=$(cd "$(dirname "$0")" && pwd)
+cc=${CC:-cc}
+flags="-std=c11 -O3 -falign-functions=64 -Wall -Wextra -I$here/../include"
+dir=$(mktemp -d)
+trap 'rm -rf "$dir"' EXIT
+
+$cc $flags -c "$here/plain.c" -o "$dir/plain.o"
+$cc $flags -c "$here/speed.c" -o "$dir/speed.o"
+if [ "$1" = plain ]; then
+	archive=$dir/second.o
+	$cc $flags -DPLAIN_AS_REAMSTORK -c "$here/plain.c" -o "$archive"
+else
+	archive=$1
+fi
+
+machine() {
+	readelf -h "$1" 2>/dev/null | sed -n 's/.*Machine: *//p' | sort -u
+}
+if [ "$(machine "$archive")" != "$(machine "$dir/plain.o")" ]; then
+	echo "The archive is for another processor than this one ($(uname -m)): it would run emulated, where figures mean nothing. Nothing is measured."
+	exit 0
+fi
+
+# Where a function begins in a line of the cache is worth up to a fifth of the
+# shortest figures, so both begin at one.
+cp "$archive" "$dir/library.a"
+objcopy --set-section-alignment '.text*=64' "$dir/library.a" 2>/dev/null || cp "$archive" "$dir/library.a"
+
+$cc -o "$dir/speed" "$dir/speed.o" "$dir/plain.o" "$dir/library.a" ${LIBS:-}
+cat <<'END'
+Times are medians over the rounds; the ratio is the library's over plain C's.
+Cold caches: 8 MiB of other reads before each lookup, so that code and words
+come from far away. Cold words only: the code has run once on another store.
+On a quiet machine two copies of the same code come out within 0.05, cold ones
+within 0.15.
+
+END
+"$dir/speed"
+
+if ! command -v valgrind >/dev/null 2>&1; then
+	echo "No valgrind: instructions are not counted."
+	exit 0
+fi
+
+# count LIBRARY CALL WHICH FUNCTION: instructions, lookups, reads
+count() {
+	valgrind --tool=callgrind --callgrind-out-file=/dev/null \
+		--toggle-collect="$4" "$dir/speed" count "$1" "$2" "$3" \
+		>"$dir/out" 2>"$dir/err"
+	echo "$(sed -n 's/.*Collected : *//p' "$dir/err") $(cat "$dir/out")"
+}
+
+echo "Instructions, 60 rules, c = 1920 (callgrind)"
+for name in reamstork plain; do
+	count $name values all ${name}_lookup
+	count $name packet all ${name}_lookup_packet
+	count $name values least ${name}_lookup
+	count $name values most ${name}_lookup
+done | awk '
+	{ took[NR] = $1; lookups[NR] = $2; reads[NR] = $3 }
+	END {
+		for (i = 0; i < 2; i++) {
+			values[i] = took[1 + 4 * i] / lookups[1 + 4 * i]
+			packet[i] = took[2 + 4 * i] / lookups[2 + 4 * i]
+			read[i] = (took[4 + 4 * i] - took[3 + 4 * i]) / (reads[4 + 4 * i] - reads[3 + 4 * i])
+			fixed[i] = took[3 + 4 * i] - read[i] * reads[3 + 4 * i]
+		}
+		printf "  %-24s %12s    %12s    %8s\n", "", "library", "plain C", "ratio"
+		row("lookup by values, mean", values)
+		row("lookup by packet, mean", packet)
+		row("one read more", read)
+		row("a lookup beside reads", fixed)
+	}
+	function row(name, x) {
+		printf "  %-24s %12.1f    %12.1f    %8.2f\n", name, x[0], x[1], x[0] / x[1]
+	}'

@@ -1,0 +1,166 @@
+/*
+ * stack.c - the stack that each call uses
+ *
+ * Each call runs on a painted stack of its own, over a table of 64 rules
+ * in a store of 65,536 cells.  What has lost its paint was used: the bytes
+ * from the caller's frame down to the lowest changed one, the caller's
+ * arguments among them.  Room that a call reserves at its very deepest and
+ * never writes keeps its paint and is not seen.
+ */
+#define _XOPEN_SOURCE 600
+#include <stdio.h>
+#include <string.h>
+#include <ucontext.h>
+
+#include "tables.h"
+
+enum { CELLS = 65536, STACK = 1 << 20 };
+
+static uint32_t words[REAMSTORK_WORDS(CELLS)], fresh[REAMSTORK_WORDS(1920)];
+static const size_t len = REAMSTORK_WORDS(CELLS);
+static struct rule rules[64];
+static uint32_t values[5];
+static uint8_t packet[28];
+static uint32_t answer;
+
+static _Alignas(64) uint8_t stack[STACK];
+static ucontext_t outside, inside;
+static void (*call)(void);
+static uint8_t paint;
+static size_t left;
+
+/* Here the stack is the painted one.  Looks before anything else is called. */
+static void run(void)
+{
+	const volatile uint8_t *p = stack;
+
+	call();
+	while (*p == paint)
+		p++;
+	left = (size_t)(p - stack);
+	swapcontext(&inside, &outside);
+}
+
+static size_t used_painted(void (*f)(void), uint8_t colour)
+{
+	paint = colour;
+	memset(stack, colour, sizeof stack);
+	call = f;
+	getcontext(&inside);
+	inside.uc_stack.ss_sp = stack;
+	inside.uc_stack.ss_size = sizeof stack;
+	inside.uc_link = NULL;
+	makecontext(&inside, run, 0);
+	swapcontext(&outside, &inside);
+	return sizeof stack - left;
+}
+
+/* Twice, since a call may write what looks like paint. */
+static size_t used(void (*f)(void))
+{
+	size_t a = used_painted(f, 0xa5), b = used_painted(f, 0x3c);
+
+	return a > b ? a : b;
+}
+
+static void nothing(void)
+{
+}
+
+static void start(void)
+{
+	answer |= reamstork_start(fresh, REAMSTORK_WORDS(1920), 1920);
+}
+
+static void start_with(void)
+{
+	answer |= reamstork_start_with(fresh, REAMSTORK_WORDS(1920), 1920, 7);
+}
+
+static void take_out(void)
+{
+	answer |= reamstork_delete(words, len, rules[20].number);
+}
+
+static void put_in(void)
+{
+	const struct rule *r = &rules[20];
+
+	answer |= reamstork_insert(words, len, r->number, r->action, r->low, r->high);
+}
+
+static void check(void)
+{
+	answer |= reamstork_check(words, len);
+}
+
+static void read_one(void)
+{
+	answer |= reamstork_read(words, len, rules[20].number).answer;
+}
+
+static void cells(void)
+{
+	answer |= reamstork_cells(words, len).answer;
+}
+
+static void lookup(void)
+{
+	answer |= reamstork_lookup(words, len, values[0], values[1], values[2], values[3], values[4]).answer;
+}
+
+static void lookup_packet(void)
+{
+	answer |= reamstork_lookup_packet(words, len, packet, sizeof packet).answer;
+}
+
+static void prefix(void)
+{
+	answer |= reamstork_prefix(0x0a000000, 24).answer;
+}
+
+/* The greater use of one call and the other, which undoes it. */
+static void in_turn(size_t *a, size_t *b, void (*f)(void), void (*g)(void))
+{
+	static const uint8_t colours[2] = { 0xa5, 0x3c };
+
+	*a = *b = 0;
+	for (int i = 0; i < 2; i++) {
+		size_t x = used_painted(f, colours[i]), y = used_painted(g, colours[i]);
+
+		*a = x > *a ? x : *a;
+		*b = y > *b ? y : *b;
+	}
+}
+
+static void say(const char *name, size_t bytes)
+{
+	printf("  %-24s %8zu bytes\n", name, bytes);
+}
+
+int main(void)
+{
+	size_t base = used(nothing), a, b;
+
+	seed = 20261115;
+	draw_table(words, len, CELLS, rules, 64, 60000, 1);
+	draw_values(values, rules, 64);
+	write_packet(packet, values);
+	printf("64 rules, c = %d, %u cells in use\n", CELLS, reamstork_cells(words, len).cells);
+	in_turn(&a, &b, take_out, put_in);
+	say("reamstork_start", used(start) - base);
+	say("reamstork_start_with", used(start_with) - base);
+	say("reamstork_insert", b - base);
+	say("reamstork_delete", a - base);
+	say("reamstork_check", used(check) - base);
+	say("reamstork_read", used(read_one) - base);
+	say("reamstork_cells", used(cells) - base);
+	say("reamstork_lookup", used(lookup) - base);
+	say("reamstork_lookup_packet", used(lookup_packet) - base);
+	say("reamstork_prefix", used(prefix) - base);
+	if (answer != 0) {
+		printf("a call was refused: %u\n", answer);
+		return 1;
+	}
+	return 0;
+}

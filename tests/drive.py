@@ -1,0 +1,244 @@
+"""Talks to the driver (driver.c): queues calls with the results that are
+expected, sends them in batches, and compares what comes back.
+
+A call queued with `want` must give exactly those numbers. A call queued
+without it is a question: its numbers come back from `flush`.
+"""
+
+import os
+import select
+import struct
+import subprocess
+from array import array
+from collections import Counter
+
+RESET, MAKE, LEND, SET, GET, DIGEST, SAME, COPY = range(8)
+START, START_WITH, INSERT, DELETE, CHECK, READ, CELLS, LOOKUP, PACKET, PREFIX, SCAN = range(16, 27)
+NAMES = {RESET: 'reset', MAKE: 'make', LEND: 'lend', SET: 'set', GET: 'get', DIGEST: 'digest',
+         SAME: 'same', COPY: 'copy', START: 'start', START_WITH: 'start_with', INSERT: 'insert',
+         DELETE: 'delete', CHECK: 'check', READ: 'read', CELLS: 'cells', LOOKUP: 'lookup',
+         PACKET: 'lookup_packet', PREFIX: 'prefix', SCAN: 'scan'}
+SIZES = {RESET: 0, MAKE: 0, LEND: 0, SET: 0, DIGEST: 2, SAME: 1, COPY: 0, START: 1, START_WITH: 1,
+         INSERT: 1, DELETE: 1, CHECK: 1, READ: 13, CELLS: 2, LOOKUP: 4, PACKET: 4, PREFIX: 3,
+         SCAN: 66}
+EDITS = (MAKE, LEND, SET, COPY, START, START_WITH, INSERT, DELETE)
+GUARDED, END_AT_WALL, FRONT_AT_WALL = range(3)
+NO_DIFFERENCE = 0xFFFFFFFF
+
+FAULTS = {1: 'a guard word in front of the store was written',
+          2: 'a guard word behind the store was written',
+          3: 'a call that may not write changed a word',
+          4: 'a refused edit changed a word',
+          5: 'an accepted edit changed a word behind its store',
+          6: 'the bytes of a packet were changed',
+          7: 'the ends of a rule were changed'}
+
+HEAD = struct.Struct('<7I')
+PACKERS = {n: struct.Struct('<%dI' % n) for n in range(1, 68)}
+
+
+class Disagreement(Exception):
+    """The library and the reference disagree, or a promise was broken."""
+
+
+class Driver:
+    """The driver's process, started again after a crash."""
+
+    def __init__(self, command, patience):
+        self.command, self.patience = command, patience
+        self.process = None
+        self.calls = 0
+
+    def begin(self):
+        self.process = subprocess.Popen(self.command, stdin=subprocess.PIPE,
+                                        stdout=subprocess.PIPE, bufsize=0)
+
+    def end(self):
+        if self.process is None:
+            return None
+        process, self.process = self.process, None
+        process.kill()
+        process.stdin.close()
+        process.stdout.close()
+        return process.wait()
+
+    def died(self, why):
+        process = self.process
+        try:
+            status = process.wait(5)
+        except subprocess.TimeoutExpired:
+            status = None
+        self.end()
+        raise Disagreement('%s (exit status %s)' % (why, status))
+
+    def take(self, size):
+        out, pipe = bytearray(), self.process.stdout.fileno()
+        while len(out) < size:
+            if not select.select([pipe], [], [], self.patience)[0]:
+                self.end()
+                raise Disagreement('gave no answer within %g seconds' % self.patience)
+            piece = os.read(pipe, min(size - len(out), 1 << 20))
+            if not piece:
+                self.died('ended the driver')
+            out += piece
+        return bytes(out)
+
+    def send(self, batch):
+        if self.process is None:
+            self.begin()
+        try:
+            view = memoryview(struct.pack('<I', len(batch) // 4) + batch)
+            while view:
+                view = view[self.process.stdin.write(view):]
+        except BrokenPipeError:
+            self.died('ended the driver')
+        head = HEAD.unpack(self.take(HEAD.size))
+        self.calls += head[1]
+        return head, self.take(4 * head[0])
+
+
+class Talk:
+    """The calls of one case."""
+
+    MOST = 1 << 20
+
+    def __init__(self, driver):
+        self.driver = driver
+        self.answers, self.notes = Counter(), Counter()
+        self.batch, self.queue, self.log = bytearray(), [], []
+        self.queue_command(RESET, ())
+        self.stores = 0
+
+    def queue_command(self, op, numbers, want=None, size=None, tail=b''):
+        size = SIZES[op] if size is None else size
+        if isinstance(want, int):
+            want = (want,)
+        numbers = (op,) + tuple(numbers)
+        self.batch += PACKERS[len(numbers)].pack(*numbers)
+        self.batch += tail
+        self.queue.append((op, numbers[1:], tail, size, want))
+
+    def note(self, what):
+        self.notes[what] += 1
+
+    # -- stores --
+
+    def make(self, total, how=GUARDED, fill=1):
+        store = self.stores
+        self.stores += 1
+        self.queue_command(MAKE, (store, total, how, fill or 1))
+        return store
+
+    def lend(self, store, length):
+        self.queue_command(LEND, (store, length))
+
+    def set(self, store, position, words):
+        self.queue_command(SET, (store, position, len(words)), tail=array('I', words).tobytes())
+
+    def get(self, store, position, n):
+        self.queue_command(GET, (store, position, n), size=n)
+
+    def same(self, a, b, n, want=NO_DIFFERENCE):
+        self.queue_command(SAME, (a, b, n), want)
+
+    def copy(self, a, b, n):
+        self.queue_command(COPY, (a, b, n))
+
+    # -- calls: `want` is what must come back, None asks --
+
+    def start(self, store, c, want=None):
+        self.queue_command(START, (store, c), want)
+
+    def start_with(self, store, c, action, want=None):
+        self.queue_command(START_WITH, (store, c, action), want)
+
+    def insert(self, store, rule, want=None):
+        self.queue_command(INSERT, (store, rule.number, rule.action) + rule.low + rule.high, want)
+
+    def delete(self, store, number, want=None):
+        self.queue_command(DELETE, (store, number), want)
+
+    def check(self, store, want=None):
+        self.queue_command(CHECK, (store,), want)
+
+    def read(self, store, number, want=None):
+        self.queue_command(READ, (store, number), want)
+
+    def cells(self, store, want=None):
+        self.queue_command(CELLS, (store,), want)
+
+    def lookup(self, store, values, want=None):
+        self.queue_command(LOOKUP, (store,) + tuple(values), want)
+
+    def packet(self, store, packet, want=None):
+        self.queue_command(PACKET, (store, len(packet)), want,
+                           tail=packet + bytes(-len(packet) % 4))
+
+    def prefix(self, address, length, want=None):
+        self.queue_command(PREFIX, (address, length), want)
+
+    def scan(self, store, first, last, want=None):
+        self.queue_command(SCAN, (store, first, last), want)
+
+    # -- sending --
+
+    def flush(self):
+        """Sends what is queued, compares, and gives the answers to questions
+        in order."""
+        batch, queue = self.batch, self.queue
+        self.batch, self.queue = bytearray(), []
+        first = len(self.log)
+        self.log.extend(queue)
+        try:
+            head, results = self.driver.send(bytes(batch))
+        except Disagreement as found:
+            self.find(str(found))
+            raise
+        fault = head[3] if head[2] else len(queue)
+        answers, at = [], 0
+        for place, (op, _, _, size, want) in enumerate(queue):
+            if place == fault:
+                self.tell(first + place, '%s: store %d, position %d' % (
+                    FAULTS.get(head[4], head[4]), head[5], head[6]))
+            if not size:
+                continue
+            got = PACKERS[size].unpack_from(results, at) if size in PACKERS else array(
+                'I', results[at:at + 4 * size])
+            at += 4 * size
+            if START <= op <= PREFIX:
+                self.answers[got[0]] += 1
+            if want is None:
+                answers.append(got)
+            elif got != want:
+                self.tell(first + place, 'gave %s, and %s was expected' % (got, want))
+        if head[2]:
+            raise Disagreement(FAULTS.get(head[4], head[4]))
+        return answers
+
+    def find(self, what):
+        """After a crash or a hang: makes the calls again one at a time."""
+        for place, (op, numbers, tail, _, _) in enumerate(self.log):
+            try:
+                self.driver.send(PACKERS[1 + len(numbers)].pack(op, *numbers) + tail)
+            except Disagreement:
+                self.tell(place, what)
+
+    def tell(self, place, what):
+        """Raises a disagreement with the edits that led to it."""
+        op, numbers, tail, _, _ = self.log[place]
+        store = numbers[0] if numbers else None
+        before = [entry for entry in self.log[:place] if entry[0] in EDITS
+                  and entry[1][1 if entry[0] == COPY else 0] == store]
+        lines = ['%s %s' % (spell(op, numbers, tail), what), 'the store came about by:']
+        if len(before) > 200:
+            lines.append('  .. %d more' % (len(before) - 200))
+        raise Disagreement('\n'.join(lines + ['  ' + spell(*entry[:3]) for entry in before[-200:]]))
+
+
+def spell(op, numbers, tail):
+    text = '%s(%s)' % (NAMES[op], ', '.join(map(str, numbers)))
+    if tail and op == PACKET:
+        text += ' bytes ' + tail[:numbers[1]][:80].hex()
+    elif tail:
+        text += ' words ' + ' '.join(map(str, array('I', tail)[:40]))
+    return text

@@ -1,0 +1,399 @@
+/* Drives the C face of Reamstork from another program.
+
+   Reads batches of commands on standard input, makes the calls, and writes
+   the results on standard output. It knows nothing of the library but
+   reamstork.h and the one sentence of document 01 on room: a store of c
+   cells takes 1,024 + 8 x c words, and words behind those are never touched.
+
+   What it watches by itself, at every call:
+   - guard words in front of and behind a store's words;
+   - every word of a store against a copy, after each call that may not
+     write and after each refused edit;
+   - the words behind the lent slice, and those behind 1,024 + 8 x c inside
+     it, after each accepted start or edit;
+   - the bytes of a packet and the ends of a rule, lent for reading.
+   A store can be laid against memory that can't be read at all, at its
+   front or at its end, and a packet always ends against such memory, so that
+   a read outside the slice ends the program.
+
+   A batch is one number, its length in words, and then that many words. All
+   numbers are 32 bits, least significant byte first. The answer to a batch is
+   seven numbers (words of results, calls made, faults seen; and of the first
+   fault: place of its command, kind, store, position) and then the results.
+   The whole batch is read before anything is written. */
+
+#define _DEFAULT_SOURCE
+#include <stdint.h>
+#include <stdio.h>
+#include <stdlib.h>
+#include <string.h>
+#include <sys/mman.h>
+#include <unistd.h>
+
+#include "reamstork.h"
+
+enum { STORES = 64, GUARD = 256, BLOCK = 65536, MOST_WORDS = 1 << 21 };
+
+/* Stores longer than this are compared once in a batch and around each edit,
+   not after each call that may not write. */
+enum { COMPARED_AT_ONCE = 1 << 14 };
+
+enum {
+  RESET = 0, MAKE = 1, LEND = 2, SET = 3, GET = 4, DIGEST = 5, SAME = 6, COPY = 7,
+  START = 16, START_WITH = 17, INSERT = 18, DELETE = 19, CHECK = 20, READ = 21,
+  CELLS = 22, LOOKUP = 23, PACKET = 24, PREFIX = 25, SCAN = 26
+};
+
+/* How a store lies in memory. */
+enum { GUARDED = 0, END_AT_WALL = 1, FRONT_AT_WALL = 2 };
+
+/* Kinds of fault. */
+enum {
+  GUARD_IN_FRONT = 1, GUARD_BEHIND = 2, READER_WROTE = 3, REFUSED_EDIT_WROTE = 4,
+  WROTE_BEHIND = 5, PACKET_WRITTEN = 6, ENDS_WRITTEN = 7
+};
+
+struct store {
+  uint32_t *words, *copy, *front, *behind;
+  size_t total, lent;
+  uint32_t c; /* as last started here; 0 when not known */
+  char *area;
+  size_t area_size;
+  int uncompared;
+};
+
+static struct store stores[STORES];
+static uint32_t *batch, *results;
+static size_t batch_room, results_room, at, batch_size, given;
+static uint32_t calls, faults, fault_command, fault_kind, fault_store, fault_position, command;
+static uint8_t *packet_end;
+
+static void stop(const char *why) {
+  fprintf(stderr, "driver: %s\n", why);
+  exit(2);
+}
+
+static void *room(void *old, size_t size) {
+  void *fresh = realloc(old, size ? size : 1);
+  if (!fresh) stop("no memory");
+  return fresh;
+}
+
+static uint32_t next(void) {
+  if (at >= batch_size) stop("batch ends inside a command");
+  return batch[at++];
+}
+
+static const uint32_t *next_many(size_t n) {
+  if (n > batch_size - at) stop("batch ends inside a command");
+  at += n;
+  return batch + at - n;
+}
+
+static uint32_t *give(size_t n) {
+  if (given + n > results_room) {
+    results_room = 2 * (given + n);
+    results = room(results, 4 * results_room);
+  }
+  given += n;
+  return results + given - n;
+}
+
+static void give_one(uint32_t number) { *give(1) = number; }
+
+static void fault(uint32_t kind, const struct store *s, size_t position) {
+  if (faults++) return;
+  fault_command = command;
+  fault_kind = kind;
+  fault_store = s ? (uint32_t)(s - stores) : 0;
+  fault_position = (uint32_t)position;
+}
+
+/* ---- stores ---- */
+
+static uint32_t guard_word(size_t i) { return 0x9E3779B1u * (uint32_t)(i + 1) ^ 0x5AFE5AFEu; }
+
+static struct store *next_store(void) {
+  uint32_t id = next();
+  if (id >= STORES) stop("no such store");
+  return &stores[id];
+}
+
+static void release(struct store *s) {
+  if (s->area) munmap(s->area, s->area_size);
+  free(s->copy);
+  memset(s, 0, sizeof *s);
+}
+
+/* Memory of some blocks with a block at either side that can't be touched.
+   Blocks are as large as the largest pages in use. */
+static uint32_t *walled(size_t inner, char **area, size_t *size) {
+  *size = inner + 3 * BLOCK;
+  *area = mmap(NULL, *size, PROT_READ | PROT_WRITE, MAP_PRIVATE | MAP_ANONYMOUS, -1, 0);
+  if (*area == MAP_FAILED) stop("no memory");
+  char *wall = *area + (BLOCK - (uintptr_t)*area % BLOCK) % BLOCK;
+  if (mprotect(wall, BLOCK, PROT_NONE) || mprotect(wall + BLOCK + inner, BLOCK, PROT_NONE))
+    stop("no wall");
+  return (uint32_t *)(wall + BLOCK);
+}
+
+static void make(struct store *s, size_t total, uint32_t how, uint32_t fill) {
+  release(s);
+  if (total > MOST_WORDS) stop("store too long");
+  s->total = s->lent = total;
+  s->copy = room(NULL, 4 * total);
+  size_t inner = (4 * (total + 2 * GUARD) + BLOCK - 1) / BLOCK * BLOCK;
+  uint32_t *first = walled(inner, &s->area, &s->area_size), *last = first + inner / 4;
+  if (how == GUARDED) s->words = first + GUARD;
+  if (how == END_AT_WALL) s->words = last - total;
+  if (how == FRONT_AT_WALL) s->words = first;
+  if (!s->words) stop("no such place for a store");
+  if (how != FRONT_AT_WALL) s->front = s->words - GUARD;
+  if (how != END_AT_WALL) s->behind = s->words + total;
+  for (size_t i = 0; i < GUARD; i++) {
+    if (s->front) s->front[i] = guard_word(i);
+    if (s->behind) s->behind[i] = guard_word(i + GUARD);
+  }
+  for (size_t i = 0; i < total; i++) {
+    fill ^= fill << 13, fill ^= fill >> 17, fill ^= fill << 5;
+    s->words[i] = s->copy[i] = fill;
+  }
+}
+
+static void look_at_guards(const struct store *s) {
+  for (size_t i = 0; i < GUARD; i++) {
+    if (s->front && s->front[i] != guard_word(i)) {
+      fault(GUARD_IN_FRONT, s, i);
+      s->front[i] = guard_word(i);
+    }
+    if (s->behind && s->behind[i] != guard_word(i + GUARD)) {
+      fault(GUARD_BEHIND, s, i);
+      s->behind[i] = guard_word(i + GUARD);
+    }
+  }
+}
+
+/* Compares the words from one position on with the copy. */
+static void compare_from(const struct store *s, size_t from, uint32_t kind) {
+  if (from >= s->total || !memcmp(s->words + from, s->copy + from, 4 * (s->total - from))) return;
+  size_t i = from;
+  while (s->words[i] == s->copy[i]) i++;
+  fault(kind, s, i);
+  memcpy(s->copy, s->words, 4 * s->total);
+}
+
+static void after_reader(struct store *s) {
+  calls++;
+  look_at_guards(s);
+  s->uncompared = s->total > COMPARED_AT_ONCE;
+  if (!s->uncompared) compare_from(s, 0, READER_WROTE);
+}
+
+static void compare_late(struct store *s) {
+  if (s->uncompared) compare_from(s, 0, READER_WROTE);
+  s->uncompared = 0;
+}
+
+static void after_edit(struct store *s, uint32_t answer) {
+  calls++;
+  give_one(answer);
+  look_at_guards(s);
+  if (answer) {
+    compare_from(s, 0, REFUSED_EDIT_WROTE);
+    return;
+  }
+  size_t end = s->c ? 1024 + 8 * (size_t)s->c : s->lent;
+  compare_from(s, end < s->lent ? end : s->lent, WROTE_BEHIND);
+  if (s->total) memcpy(s->copy, s->words, 4 * s->total);
+}
+
+/* ---- commands that are no calls ---- */
+
+static void housekeeping(uint32_t op) {
+  if (op == RESET) {
+    for (size_t i = 0; i < STORES; i++) release(&stores[i]);
+    return;
+  }
+  struct store *s = next_store();
+  if (op == MAKE) {
+    size_t total = next();
+    uint32_t how = next();
+    make(s, total, how, next());
+    return;
+  }
+  if (op == LEND) {
+    s->lent = next();
+    if (s->lent > s->total) stop("more lent than there is");
+    return;
+  }
+  if (op == SAME || op == COPY) {
+    struct store *t = next_store();
+    size_t n = next();
+    if (n > s->total || n > t->total) stop("words that are not there");
+    if (op == COPY) {
+      if (n) memcpy(t->words, s->words, 4 * n), memcpy(t->copy, s->words, 4 * n);
+      t->c = s->c;
+      return;
+    }
+    size_t i = 0;
+    while (i < n && s->words[i] == t->words[i]) i++;
+    give_one(i < n ? (uint32_t)i : UINT32_MAX);
+    return;
+  }
+  size_t from = next(), n = next();
+  if (from > s->total || n > s->total - from) stop("words that are not there");
+  if (op == SET) {
+    const uint32_t *given_words = next_many(n);
+    if (n) memcpy(s->words + from, given_words, 4 * n), memcpy(s->copy + from, given_words, 4 * n);
+  } else if (op == GET) {
+    uint32_t *out = give(n);
+    if (n) memcpy(out, s->words + from, 4 * n);
+  } else {
+    uint64_t h = 0xCBF29CE484222325u;
+    for (size_t i = from; i < from + n; i++) h = (h ^ s->words[i]) * 0x100000001B3u, h ^= h >> 29;
+    give_one((uint32_t)h);
+    give_one((uint32_t)(h >> 32));
+  }
+}
+
+/* ---- calls ---- */
+
+static void call_insert(struct store *s) {
+  uint32_t number = next(), action = next(), ends[10], lent_ends[10];
+  memcpy(ends, next_many(10), sizeof ends);
+  memcpy(lent_ends, ends, sizeof ends);
+  uint32_t answer =
+      reamstork_insert(s->words, s->lent, number, action, lent_ends, lent_ends + 5);
+  after_edit(s, answer);
+  if (memcmp(ends, lent_ends, sizeof ends)) fault(ENDS_WRITTEN, s, 0);
+}
+
+static void edit(uint32_t op) {
+  struct store *s = next_store();
+  compare_late(s);
+  if (op == INSERT) {
+    call_insert(s);
+    return;
+  }
+  uint32_t number = next(), answer;
+  uint32_t c = s->c;
+  if (op != DELETE) s->c = number;
+  if (op == START) answer = reamstork_start(s->words, s->lent, number);
+  else if (op == START_WITH) answer = reamstork_start_with(s->words, s->lent, number, next());
+  else answer = reamstork_delete(s->words, s->lent, number);
+  if (answer) s->c = c;
+  after_edit(s, answer);
+}
+
+static void give_found(reamstork_found found) {
+  uint32_t *out = give(4);
+  out[0] = found.answer, out[1] = found.rule, out[2] = found.action, out[3] = found.reads;
+}
+
+static void call_packet(struct store *s) {
+  size_t size = next();
+  if (size > 2 * BLOCK) stop("packet too long");
+  const uint32_t *bytes = next_many((size + 3) / 4);
+  uint8_t *packet = packet_end - size;
+  memcpy(packet, bytes, size);
+  give_found(reamstork_lookup_packet(s->words, s->lent, packet, size));
+  if (memcmp(packet, bytes, size)) fault(PACKET_WRITTEN, s, 0);
+}
+
+/* Reads every number from one to another; gives how many are there and the
+   first 65 of them. */
+static void scan(struct store *s) {
+  uint32_t from = next(), to = next(), found = 0, *out = give(66);
+  memset(out, 0, 66 * 4);
+  for (uint32_t n = from; n <= to && n >= from; n++, calls++)
+    if (!reamstork_read(s->words, s->lent, n).answer && ++found <= 65) out[found] = n;
+  out[0] = found;
+}
+
+static void look(uint32_t op) {
+  struct store *s = next_store();
+  if (op == CHECK) give_one(reamstork_check(s->words, s->lent));
+  if (op == READ) {
+    reamstork_rule rule = reamstork_read(s->words, s->lent, next());
+    uint32_t *out = give(13);
+    out[0] = rule.answer, out[1] = rule.number, out[2] = rule.action;
+    memcpy(out + 3, rule.low, 20);
+    memcpy(out + 8, rule.high, 20);
+  }
+  if (op == CELLS) {
+    reamstork_count count = reamstork_cells(s->words, s->lent);
+    uint32_t *out = give(2);
+    out[0] = count.answer, out[1] = count.cells;
+  }
+  if (op == LOOKUP) {
+    const uint32_t *v = next_many(5);
+    give_found(reamstork_lookup(s->words, s->lent, v[0], v[1], v[2], v[3], v[4]));
+  }
+  if (op == PACKET) call_packet(s);
+  if (op == SCAN) scan(s);
+  after_reader(s);
+}
+
+static void call_prefix(void) {
+  uint32_t address = next();
+  reamstork_range range = reamstork_prefix(address, next());
+  uint32_t *out = give(3);
+  out[0] = range.answer, out[1] = range.low, out[2] = range.high;
+  calls++;
+}
+
+/* ---- batches ---- */
+
+static int take(void *into, size_t size) {
+  char *p = into;
+  while (size) {
+    ssize_t n = read(0, p, size);
+    if (n <= 0) return 0;
+    p += n, size -= (size_t)n;
+  }
+  return 1;
+}
+
+static void put(const void *from, size_t size) {
+  const char *p = from;
+  while (size) {
+    ssize_t n = write(1, p, size);
+    if (n <= 0) exit(2);
+    p += n, size -= (size_t)n;
+  }
+}
+
+static void run_batch(void) {
+  at = given = 0;
+  calls = faults = fault_command = fault_kind = fault_store = fault_position = command = 0;
+  for (; at < batch_size; command++) {
+    uint32_t op = next();
+    if (op <= COPY) housekeeping(op);
+    else if (op >= START && op <= DELETE) edit(op);
+    else if (op == PREFIX) call_prefix();
+    else if (op >= CHECK && op <= SCAN) look(op);
+    else stop("no such command");
+  }
+  for (size_t i = 0; i < STORES; i++) compare_late(&stores[i]);
+}
+
+int main(void) {
+  char *area;
+  size_t size;
+  uint32_t length;
+  packet_end = (uint8_t *)walled(2 * BLOCK, &area, &size) + 2 * BLOCK;
+  while (take(&length, 4)) {
+    batch_size = length;
+    if (batch_size > batch_room) {
+      batch_room = batch_size;
+      batch = room(batch, 4 * batch_room);
+    }
+    if (!take(batch, 4 * batch_size)) break;
+    run_batch();
+    uint32_t head[7] = {(uint32_t)given, calls, faults, fault_command,
+                        fault_kind, fault_store, fault_position};
+    put(head, sizeof head);
+    put(results, 4 * given);
+  }
+  return 0;
+}

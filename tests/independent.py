@@ -1,0 +1,121 @@
+#!/usr/bin/env python3
+"""Drives the library through its C face and compares it with the reference.
+
+    tests/independent.py --driver CMD.. [--bench CMD..] [--seconds N] [--seed N] [--case K]
+
+--driver is the command that runs driver.c linked with the archive, --bench
+the one that runs the bench program; an emulator may stand in front of either.
+Cases are numbered. The first ones are fixed, the rest are random and go on
+until the time is up. A case depends on the seed and its number alone: --seed
+N --case K runs one again. The last line counts cases.
+"""
+
+import argparse
+import random
+import shlex
+import sys
+import time
+from collections import Counter
+
+from drive import Disagreement, Driver, Talk
+from edits import crowd, edits, fit, histories, large
+from hostile import garbage, hostile, hostile_large, mazes
+from limits import (any_words_before, bench_table, every_length, order_of_refusals,
+                    seven_before_nine, sixty_four, starts)
+from packets import BenchProgram, captures, every_prefix, header_grid, headers, prefixes
+
+FIXED = [bench_table, starts, any_words_before, every_length, sixty_four, order_of_refusals,
+         header_grid, seven_before_nine, every_prefix, captures]
+
+# In this order again and again; the costly ones come seldom.
+RANDOM = [edits, hostile, fit, headers, edits, histories, hostile, garbage, edits, crowd, fit,
+          histories, hostile, prefixes, edits, headers, large, hostile, histories, hostile_large,
+          mazes, mazes]
+
+
+class Run:
+    def __init__(self, options):
+        self.options = options
+        self.driver = Driver(options.driver, options.patience)
+        self.random = RANDOM + [BenchProgram(options.bench, options.patience)]
+        self.passed, self.failed = 0, 0
+        self.parts, self.answers, self.notes = {}, Counter(), Counter()
+
+    def part(self, number):
+        if number < len(FIXED):
+            return FIXED[number]
+        return self.random[(number - len(FIXED)) % len(self.random)]
+
+    def case(self, number):
+        part = self.part(number)
+        if isinstance(part, BenchProgram) and not part.command:
+            return
+        rng = random.Random('%d case %d' % (self.options.seed, number))
+        talk = Talk(self.driver)
+        began = time.monotonic()
+        try:
+            part(talk, rng)
+            self.passed += 1
+        except Disagreement as found:
+            self.failed += 1
+            print('FAILED case %d (%s): run again with --seed %d --case %d\n  %s' % (
+                number, part.__name__, self.options.seed, number, str(found).replace('\n', '\n  ')),
+                flush=True)
+        count, spent = self.parts.get(part.__name__, (0, 0))
+        self.parts[part.__name__] = (count + 1, spent + time.monotonic() - began)
+        self.answers += talk.answers
+        self.notes += talk.notes
+
+    def all(self):
+        began = time.monotonic()
+        number = 0
+        while self.failed < self.options.stop and (
+                number < len(FIXED) or time.monotonic() < began + self.options.seconds):
+            self.case(number)
+            number += 1
+        return time.monotonic() - began
+
+    def report(self, spent):
+        for name, (count, took) in self.parts.items():
+            print('%-18s %6d cases %8.1f s' % (name, count, took))
+        seen = ', '.join('%d: %d' % pair for pair in sorted(self.answers.items()))
+        print('answers seen: ' + seen)
+        print(', '.join('%s: %d' % pair for pair in self.notes.items()))
+        print('%d calls in %.1f s, %d in a second' % (
+            self.driver.calls, spent, self.driver.calls / max(spent, 0.001)))
+
+
+def command_line(words):
+    return shlex.split(words[0]) if len(words) == 1 else words
+
+
+def main():
+    parser = argparse.ArgumentParser(description='The library against an independent reference.')
+    parser.add_argument('--driver', nargs='+', required=True, metavar='CMD')
+    parser.add_argument('--bench', nargs='+', metavar='CMD')
+    parser.add_argument('--seconds', type=float, default=60)
+    parser.add_argument('--seed', type=int, default=None)
+    parser.add_argument('--case', type=int, default=None)
+    parser.add_argument('--patience', type=float, default=120,
+                        help='seconds after which a batch of calls counts as hanging')
+    parser.add_argument('--stop', type=int, default=20, help='stop after that many failures')
+    options = parser.parse_args()
+    options.driver = command_line(options.driver)
+    options.bench = options.bench and command_line(options.bench)
+    if options.seed is None:
+        options.seed = random.SystemRandom().randrange(10 ** 9)
+    print('seed %d' % options.seed, flush=True)
+    run = Run(options)
+    began = time.monotonic()
+    if options.case is None:
+        run.all()
+    else:
+        run.case(options.case)
+    run.report(time.monotonic() - began)
+    run.driver.end()
+    print('%d passed, %d failed' % (run.passed, run.failed))
+    return 1 if run.failed or not run.passed else 0
+
+
+if __name__ == '__main__':
+    sys.exit(main())

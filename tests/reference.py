@@ -1,0 +1,236 @@
+"""The reference account of Reamstork, written from document 01 alone.
+
+There is no tree and there are no cells in its answers: the winner and the
+count of reads come straight from the rules, in the words of demands 2 and 3.
+It shares no code with the library. Python's whole numbers have no width, so
+nothing here can wrap round.
+"""
+
+from collections import namedtuple
+
+TOPS = (4294967295, 4294967295, 255, 65535, 65535)
+FIELDS = ('destination', 'source', 'protocol', 'destination port', 'source port')
+DEFAULT = 65535
+MOST_RULES = 64
+LEAST_CELLS, MOST_CELLS = 5, 65536
+
+DONE = 0
+NUMBER_TOO_HIGH, BAD_RANGE, ALREADY_THERE, NOT_THERE, TABLE_FULL, NO_ROOM = 1, 2, 3, 4, 5, 6
+NOT_READABLE, BAD_START, BAD_STORE, BAD_PREFIX, ABOVE_TOP, BAD_CAPTURE = 7, 8, 9, 10, 11, 12
+
+Rule = namedtuple('Rule', 'number action low high')
+
+
+def default_rule(action):
+    return Rule(DEFAULT, action, (0,) * 5, TOPS)
+
+
+def words_needed(c):
+    return 1024 + 8 * c
+
+
+# ---- what the rules say -------------------------------------------------
+
+def ends(rule, field):
+    """The high end and, if the low end is above 0, the low end less 1."""
+    low, high = rule.low[field], rule.high[field]
+    return (high, low - 1) if low > 0 else (high,)
+
+
+def winner_and_reads(rules, values):
+    """The rule of least number among those whose five ranges hold the values,
+    and, summed over the fields, one plus the distinct ends below the value,
+    over the rules that hold the earlier values."""
+    reads = 0
+    for field, value in enumerate(values):
+        below = set()
+        for rule in rules:
+            for end in ends(rule, field):
+                if end < value:
+                    below.add(end)
+        reads += 1 + len(below)
+        rules = [rule for rule in rules if rule.low[field] <= value <= rule.high[field]]
+    return min(rules, key=lambda rule: rule.number), reads
+
+
+def count_cells(rules, bound):
+    """The number of locations of the tree of the rules; some number above the
+    bound when there are more than that."""
+    seen = {}
+
+    def under(held, field):
+        if field == 5:
+            return 0
+        known = seen.get((held, field))
+        if known is not None:
+            return known
+        total = 0
+        for end in {end for i in held for end in ends(rules[i], field)}:
+            # No end lies inside a location, so a rule covers the whole of it
+            # when it holds its last value.
+            covering = tuple(i for i in held if rules[i].low[field] <= end <= rules[i].high[field])
+            total += 1 + under(covering, field + 1)
+            if total > bound:
+                break
+        seen[held, field] = total
+        return total
+
+    return under(tuple(range(len(rules))), 0)
+
+
+def range_fault(low, high):
+    return any(l > h or h > top for l, h, top in zip(low, high, TOPS))
+
+
+# ---- a store ------------------------------------------------------------
+
+class Account:
+    """What a store must hold and answer, for stores that pass the check."""
+
+    def __init__(self):
+        self.c = None
+        self.rules = {}
+        self.default = None
+
+    def start(self, length, c, action=1):
+        if not LEAST_CELLS <= c <= MOST_CELLS or length < words_needed(c):
+            return BAD_START
+        self.c = c
+        self.rules = {}
+        self.default = default_rule(action)
+        return DONE
+
+    def table(self):
+        return [self.rules[number] for number in sorted(self.rules)] + [self.default]
+
+    def cells_with(self, rule, bound=MOST_CELLS):
+        return count_cells(self.table() + [rule], bound)
+
+    def insert(self, number, action, low, high):
+        if number > 65534:
+            return NUMBER_TOO_HIGH
+        if range_fault(low, high):
+            return BAD_RANGE
+        if number in self.rules:
+            return ALREADY_THERE
+        if len(self.rules) >= MOST_RULES:
+            return TABLE_FULL
+        rule = Rule(number, action, tuple(low), tuple(high))
+        if self.cells_with(rule, self.c) > self.c:
+            return NO_ROOM
+        self.rules[number] = rule
+        return DONE
+
+    def delete(self, number):
+        if number > 65534:
+            return NUMBER_TOO_HIGH
+        if number not in self.rules:
+            return NOT_THERE
+        del self.rules[number]
+        return DONE
+
+    def read(self, number):
+        """(answer, number, action, five low ends, five high ends)"""
+        if number == DEFAULT:
+            rule = self.default
+        elif number > 65534:
+            return (NUMBER_TOO_HIGH,) + (0,) * 12
+        elif number not in self.rules:
+            return (NOT_THERE,) + (0,) * 12
+        else:
+            rule = self.rules[number]
+        return (DONE, rule.number, rule.action) + rule.low + rule.high
+
+    def cells(self):
+        return (DONE, count_cells(self.table(), MOST_CELLS))
+
+    def lookup(self, values):
+        """(answer, rule, action, reads)"""
+        if any(value > top for value, top in zip(values, TOPS)):
+            return (ABOVE_TOP, 0, 0, 0)
+        rule, reads = winner_and_reads(self.table(), values)
+        return (DONE, rule.number, rule.action, reads)
+
+    def lookup_packet(self, packet):
+        values = read_header(packet)
+        if values is None:
+            return (NOT_READABLE, 0, 0, 0)
+        return self.lookup(values)
+
+
+# ---- headers, prefixes, captures ----------------------------------------
+
+def read_header(packet):
+    """The five values of an IPv4 packet in the order of the fields, or None."""
+    if len(packet) < 20:
+        return None
+    version, header = packet[0] >> 4, 4 * (packet[0] & 15)
+    total = int.from_bytes(packet[2:4], 'big')
+    offset = int.from_bytes(packet[6:8], 'big') & 0x1FFF
+    protocol = packet[9]
+    if version != 4 or header < 20 or total < header or len(packet) < total:
+        return None
+    source_port = destination_port = 0
+    if protocol in (6, 17) and offset == 0:
+        if total - header < 4:
+            return None
+        source_port = int.from_bytes(packet[header:header + 2], 'big')
+        destination_port = int.from_bytes(packet[header + 2:header + 4], 'big')
+    return (int.from_bytes(packet[16:20], 'big'), int.from_bytes(packet[12:16], 'big'),
+            protocol, destination_port, source_port)
+
+
+def prefix(address, length):
+    """(answer, low, high)"""
+    if length > 32 or address % 2 ** (32 - length):
+        return (BAD_PREFIX, 0, 0)
+    return (DONE, address, address + 2 ** (32 - length) - 1)
+
+
+def capture_records(capture):
+    """The packets of a capture and how it ended (0, 1 or 2), or None when it
+    is not accepted."""
+    if len(capture) < 24 or capture[:4] not in (b'\xa1\xb2\xc3\xd4', b'\xd4\xc3\xb2\xa1'):
+        return None
+    order = 'big' if capture[0] == 0xA1 else 'little'
+
+    def number(position, size):
+        return int.from_bytes(capture[position:position + size], order)
+
+    if (number(4, 2), number(6, 2)) != (2, 4) or number(20, 4) != 101:
+        return None
+    packets, at = [], 24
+    while at < len(capture):
+        if len(capture) - at < 16:
+            return packets, 1
+        size = number(at + 8, 4)
+        if size > 16384:
+            return packets, 2
+        if len(capture) - at - 16 < size:
+            return packets, 1
+        packets.append(capture[at + 16:at + 16 + size])
+        at += 16 + size
+    return packets, 0
+
+
+BENCH_RULES = (
+    Rule(10, 2, (167772160, 0, 17, 5000, 0), (167772415, 4294967295, 17, 5009, 65535)),
+    Rule(20, 3, (167772160, 0, 0, 0, 0), (167772287, 4294967295, 255, 65535, 65535)),
+)
+
+
+def bench_output(capture):
+    """What the bench program writes for a capture."""
+    read = capture_records(capture)
+    if read is None:
+        return 'refused 12\n'
+    packets, ending = read
+    account = Account()
+    account.start(words_needed(1920), 1920)
+    for rule in BENCH_RULES:
+        account.insert(*rule)
+    lines = ['packet answer rule action reads']
+    for place, packet in enumerate(packets, 1):
+        lines.append('%d %d %d %d %d' % ((place,) + account.lookup_packet(packet)))
+    lines.append('end %d %d' % (len(packets), ending))
+    return '\n'.join(lines) + '\n'

@@ -1,0 +1,75 @@
+"""A store of the driver's beside the reference's account of it."""
+
+import drive
+from drive import Disagreement
+from reference import DEFAULT, MOST_RULES, Account, words_needed
+from tables import values_above, values_near
+
+HOWS = (drive.GUARDED, drive.GUARDED, drive.END_AT_WALL, drive.FRONT_AT_WALL)
+
+
+class Store:
+    """A store of the driver's beside the reference's account of it. Each call
+    is queued with what the account says must come back."""
+
+    def __init__(self, talk, length, how=drive.GUARDED, fill=1):
+        self.talk, self.length, self.account = talk, length, Account()
+        self.id = talk.make(length, how, fill)
+
+    def start(self, c, action=None):
+        if action is None:
+            want = self.account.start(self.length, c)
+            self.talk.start(self.id, c, want)
+        else:
+            want = self.account.start(self.length, c, action)
+            self.talk.start_with(self.id, c, action, want)
+        return want
+
+    def insert(self, rule):
+        want = self.account.insert(*rule)
+        self.talk.insert(self.id, rule, want)
+        return want
+
+    def delete(self, number):
+        want = self.account.delete(number)
+        self.talk.delete(self.id, number, want)
+        return want
+
+    def read(self, number):
+        self.talk.read(self.id, number, self.account.read(number))
+
+    def lookup(self, values):
+        self.talk.lookup(self.id, values, self.account.lookup(values))
+
+    def packet(self, packet):
+        self.talk.packet(self.id, packet, self.account.lookup_packet(packet))
+
+    def audit(self, rng, lookups=6, reads=MOST_RULES):
+        """Everything that can be asked after an edit."""
+        account, talk = self.account, self.talk
+        talk.check(self.id, 0)
+        talk.cells(self.id, account.cells())
+        numbers = list(account.rules)
+        for number in numbers if len(numbers) <= reads else rng.sample(numbers, reads):
+            self.read(number)
+        self.read(DEFAULT)
+        self.read(rng.choice((65536, 2 ** 32 - 1, rng.randrange(65535), 65534, 0)))
+        table = account.table()
+        for _ in range(lookups):
+            values = values_near(rng, table)
+            self.lookup(values)
+        self.lookup(values_above(rng, values) if rng.random() < 0.3 else values)
+
+
+def fresh(talk, rng, c, action=None):
+    """A started store, its words full of rubbish before, with or without
+    words behind it."""
+    store = Store(talk, words_needed(c) + rng.choice((0, 0, 1, 8, 100)), rng.choice(HOWS),
+                  rng.getrandbits(32))
+    store.start(c, action)
+    return store
+
+
+def expect(truth, text):
+    if not truth:
+        raise Disagreement(text)

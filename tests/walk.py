@@ -1,0 +1,32 @@
+"""The walk of a lookup over any words, as the manual in reamstork.h tells it.
+
+Document 01 leaves the layout of a store to the project and has the answer of
+a lookup over words that fail the check follow the walk written in docs/. So
+this page, and this page alone among the tests, is written from the manual;
+reference.py knows no layout.
+"""
+
+REFUSED = (9, 0, 0, 0)
+
+
+def walk(words, values):
+    """(answer, rule, action, reads) for the words that a lookup is lent."""
+    if not words or not 5 <= words[0] <= 65536 or len(words) < 1024 + 8 * words[0]:
+        return REFUSED
+    c, cell, reads = words[0], words[1023], 0
+    for value in values:
+        for _ in range(c):
+            if cell >= c:
+                return REFUSED
+            end, following, below = words[1024 + 8 * cell:1027 + 8 * cell]
+            reads += 1
+            if end >= value:
+                break
+            cell = following
+        else:
+            return REFUSED
+        cell = below
+    place = cell
+    if place > words[1] or place > 64:
+        return REFUSED
+    return (0, words[47 + 15 * place], words[48 + 15 * place], reads)
