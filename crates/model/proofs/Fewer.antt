@@ -22,16 +22,16 @@ module _ {B C : Type 0} (g : ℕ → Tree B) (h : ℕ → Tree C) (le : (e : ℕ
   chain-fewer [] (x ∷ xs) rx ry s = absurd (s x (inl refl))
   chain-fewer (y ∷ ys) (x ∷ xs) rx ry s = by-test (eqb x y)
       (λ t.
-        let e = eqb-true x y t in
-        let i = chain-fewer ys xs (rx .1) (ry .1) (λ z m. ⊎-elim (λ (q : z ≡ y). absurd (let a = rx .0 z m in omega arith)) (λ (n : In z ys). n) (s z (inr m))) in
-        let j = subst (λ (k : ℕ). cells (g x) ≤ cells (h k)) e (le x) in
-        omega arith)
+      let e = eqb-true x y t in
+      let i = chain-fewer ys xs (rx .1) (ry .1) (λ z m. ⊎-elim (λ (q : z ≡ y). absurd (let a = rx .0 z m in omega arith)) (λ (n : In z ys). n) (s z (inr m))) in
+      let j = subst (λ (k : ℕ). cells (g x) ≤ cells (h k)) e (le x) in
+      omega arith)
       (λ t.
-        let n = eqb-false x y t in
-        let m = ⊎-elim (λ (q : x ≡ y). absurd (n q)) (λ (v : In x ys). v) (s x (inl refl)) in
-        let l = ry .0 x m in
-        let i = chain-fewer ys (x ∷ xs) rx (ry .1) (λ z v. ⊎-elim (λ (q : z ≡ y). absurd (⊎-elim (λ (a : z ≡ x). omega arith) (λ (a : In z xs). let b = rx .0 z a in omega arith) v)) (λ (w : In z ys). w) (s z v)) in
-        omega arith)
+      let n = eqb-false x y t in
+      let m = ⊎-elim (λ (q : x ≡ y). absurd (n q)) (λ (v : In x ys). v) (s x (inl refl)) in
+      let l = ry .0 x m in
+      let i = chain-fewer ys (x ∷ xs) rx (ry .1) (λ z v. ⊎-elim (λ (q : z ≡ y). absurd (⊎-elim (λ (a : z ≡ x). omega arith) (λ (a : In z xs). let b = rx .0 z a in omega arith) v)) (λ (w : In z ys). w) (s z v)) in
+      omega arith)
 
 -- a part of the rules takes no more cells, whatever is named
 pub fewer : {P A B C : Type 0} (g : List A → B) (k : List A → C) (fs : List (Field P A)) (xs ys : List A) → Sub xs ys → cells (tree g fs xs) ≤ cells (tree k fs ys)

@@ -87,4 +87,5 @@ starred = record {
   full-39' = refl;
   taken-40' = refl;
   cells-fresh = refl;
-  both-within = refl }
+  both-within = refl;
+}

@@ -38,7 +38,13 @@ pub extern "C" fn reamstork_start_with(words: &mut [u32], c: u32, action: u32) -
 
 // Inserts a rule.
 #[no_mangle]
-pub extern "C" fn reamstork_insert(words: &mut [u32], number: u32, action: u32, low: &[u32; 5], high: &[u32; 5]) -> u32
+pub extern "C" fn reamstork_insert(
+    words: &mut [u32],
+    number: u32,
+    action: u32,
+    low: &[u32; 5],
+    high: &[u32; 5],
+) -> u32
     ensures { λ r. ⌜ (r ≡ insertSays ipv4 (now (words .entry)) (ruleOf number action (now (low .entry)) (now (high .entry)))) × (now (words .exit) ≡ insertWords ipv4 (now (words .entry)) (ruleOf number action (now (low .entry)) (now (high .entry)))) ⌝ }
 {
     let rule = Rule {
@@ -94,10 +100,24 @@ pub extern "C" fn reamstork_cells(words: &[u32]) -> Count
 
 // Looks five values up.
 #[no_mangle]
-pub extern "C" fn reamstork_lookup(words: &[u32], destination: u32, source: u32, protocol: u32, destination_port: u32, source_port: u32) -> Found
+pub extern "C" fn reamstork_lookup(
+    words: &[u32],
+    destination: u32,
+    source: u32,
+    protocol: u32,
+    destination_port: u32,
+    source_port: u32,
+) -> Found
     ensures { λ r. ⌜ r ≡ lookupValues (now (words .entry)) destination source protocol «destination_port» «source_port» ⌝ }
 {
-    lookup::lookup(words, destination, source, protocol, destination_port, source_port)
+    lookup::lookup(
+        words,
+        destination,
+        source,
+        protocol,
+        destination_port,
+        source_port,
+    )
 }
 
 // Looks an IPv4 packet up, whose bytes begin at its header.

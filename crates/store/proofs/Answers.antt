@@ -64,8 +64,8 @@ module _ (ws : List ℕ) (n : ℕ) where
 pub deleted : (ws : List ℕ) (n : ℕ) → 0 ≡ deleteSays ipv4 ws n → (passes ipv4 ws ≡ true) × (stands n (tableOf ipv4 ws .rules) ≡ true)
 deleted ws n e = by-test (passes ipv4 ws)
     (λ h. by-test (ltb 65534 n)
-      (λ l. absurd (let z : 0 ≡ 1 = e ∙ rw (h, l) in omega arith))
-      (λ l. by-test (stands n (tableOf ipv4 ws .rules)) (λ s. (h, s)) (λ s. absurd (let z : 0 ≡ 4 = e ∙ rw (h, l, s) in omega arith))))
+    (λ l. absurd (let z : 0 ≡ 1 = e ∙ rw (h, l) in omega arith))
+    (λ l. by-test (stands n (tableOf ipv4 ws .rules)) (λ s. (h, s)) (λ s. absurd (let z : 0 ≡ 4 = e ∙ rw (h, l, s) in omega arith))))
     (λ h. absurd (let z : 0 ≡ 9 = e ∙ rw h in omega arith))
 
 -- INSERT
@@ -173,8 +173,7 @@ module _ (ws : List ℕ) (n : ℕ) where
             let up = sound ws h .rising in
             let a = at-stands n noRule 0 R up s in
             let i = rule-in d n R s in
-            let y : getD R (ahead n R) noRule ≡ ruleAt d n R = one-number 0 R up (getD R (ahead n R) noRule) (ruleAt d n R) (getD-in R (ahead n R) noRule (a .0)) (i .0) (a .1 ∙ sym (i .1)) in
-            (
+            let y : getD R (ahead n R) noRule ≡ ruleAt d n R = one-number 0 R up (getD R (ahead n R) noRule) (ruleAt d n R) (getD-in R (ahead n R) noRule (a .0)) (i .0) (a .1 ∙ sym (i .1)) in (
               rw (h, ne-eqb n 65535 o, le-ltb 65534 n l, s),
               rw (h, ne-eqb n 65535 o, le-ltb 65534 n l, s) (ap (ruleIn 5 (rowsOf ws)) (add-one p ∙ ap suc e) ∙ row-is (suc (ahead n R)) (omega (arith, a .0)) ∙ y),
             )

@@ -43,9 +43,10 @@ module _ (c : ℕ) (ws p : List ℕ) (most : c ≤ 65536) (long : size c ≤ len
     most = most;
     long = omega (arith, same-len-mid 1022 (1024 + 8 * c - 1022) ws p (p-long ∙ sym (mid-len 1022 (1024 + 8 * c) ws long)));
     free =
-      ap (take (2 + 8 * c)) (drop-at (take 1022 ws) (p ++ postOf 1022 (1024 + 8 * c - 1022) ws) 1022 (length-take-le 1022 ws (omega arith)))
-      ∙ take-at p (postOf 1022 (1024 + 8 * c - 1022) ws) (2 + 8 * c) (p-long ∙ part-end c)
-      ∙ e }
+        ap (take (2 + 8 * c)) (drop-at (take 1022 ws) (p ++ postOf 1022 (1024 + 8 * c - 1022) ws) 1022 (length-take-le 1022 ws (omega arith)))
+        ∙ take-at p (postOf 1022 (1024 + 8 * c - 1022) ws) (2 + 8 * c) (p-long ∙ part-end c)
+        ∙ e;
+  }
 
   pub emptied-laid : (n : ℕ) (rows : List ℕ) → laid c n rows (putMid 1022 (1024 + 8 * c - 1022) ws p) ≡ laid c n rows ws
   unfolding laid
@@ -68,7 +69,8 @@ pub fitting : (n c : ℕ) (rows : List ℕ) (t : Table) → n ≡ length (t .rul
 fitting n c rows t en er w few room = record {
   few = omega arith;
   whole = ap length er ∙ rows-length ipv4 t;
-  room = omega (arith, rows-cells n rows t en er w) }
+  room = omega (arith, rows-cells n rows t en er w);
+}
 
 -- A STORE THAT PASSES
 module _ (ws : List ℕ) (s : Sound ws) where
@@ -91,7 +93,8 @@ module _ (ws : List ℕ) (s : Sound ws) where
     deep = deep-tree (rowsOf ws) 0 5 (places (getD ws 1 0));
     fits = sound-fits;
     most = sound-room .most;
-    is = ap (λ m. take m (drop 1022 ws)) (part-end (cellsIn ws)) ∙ s .tree }
+    is = ap (λ m. take m (drop 1022 ws)) (part-end (cellsIn ws)) ∙ s .tree;
+  }
 
   -- its cells, and the word that names them
   pub sound-cells : cells (treeAt (rowsOf ws) 0 5 (places (getD ws 1 0))) ≡ cellsOf ipv4 (tableOf ipv4 ws)

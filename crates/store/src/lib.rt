@@ -322,9 +322,15 @@ pub fn cells(words: &[u32]) -> Count
     ensures { λ r. ⌜ (r .answer ≡ cellsSays ipv4 (now (words .entry))) × (r .cells ≡ cellsGives ipv4 (now (words .entry))) ⌝ }
 {
     if !check(words) {
-        return Count { answer: 9, cells: 0 };
+        return Count {
+            answer: 9,
+            cells: 0,
+        };
     }
-    Count { answer: 0, cells: words[1022] }
+    Count {
+        answer: 0,
+        cells: words[1022],
+    }
 }
 
 ghost use mathlib.Core.Bool.{true};

@@ -68,9 +68,10 @@ module _ (c n : ℕ) (r : List ℕ) where
 
 -- two lists of equal first parts' lengths are equal where their parts are
 pub split-equal : (a b x y : List ℕ) → length a ≡ length b → a ++ x ≡ b ++ y → (a ≡ b) × (x ≡ y)
-split-equal a b x y l e =
-    (sym (take-at a x (length a) refl) ∙ ap (take (length a)) e ∙ take-at b y (length a) (sym l),
-    sym (drop-at a x (length a) refl) ∙ ap (drop (length a)) e ∙ drop-at b y (length a) (sym l))
+split-equal a b x y l e = (
+  sym (take-at a x (length a) refl) ∙ ap (take (length a)) e ∙ take-at b y (length a) (sym l),
+  sym (drop-at a x (length a) refl) ∙ ap (drop (length a)) e ∙ drop-at b y (length a) (sym l),
+)
 
 -- the words of a store of c cells: 47, 975 and 2 + 8 c
 pub in-three : (ws : List ℕ) (c : ℕ) → take (size c) ws ≡ take 47 ws ++ (rowsOf ws ++ partOf c ws)

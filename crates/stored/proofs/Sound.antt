@@ -46,7 +46,8 @@ roomy c ws h =
     record {
       least = leb-true 5 c (and-left (leb 5 c) _ h);
       most = leb-true c 65536 (and-left (leb c 65536) _ t);
-      long = leb-true (size c) (length ws) (and-right (leb c 65536) _ t) }
+      long = leb-true (size c) (length ws) (and-right (leb c 65536) _ t);
+    }
 
 pub room-is : (c : ℕ) (ws : List ℕ) → Roomy c ws → roomFor ipv4 c ws ≡ true
 room-is c ws r = rw (le-leb 5 c (r .least), le-leb c 65536 (r .most), le-leb (size c) (length ws) (r .long))
@@ -76,7 +77,8 @@ module _ (ws : List ℕ) where
         rows = b .0;
         rising = and-left (risingFrom 0 (t .rules)) _ v;
         right = and-right (risingFrom 0 (t .rules)) _ v;
-        tree = b .1 ∙ ap₂ (λ rows m. part c (treeAt rows 0 5 (places m))) (sym (b .0)) count-is }
+        tree = b .1 ∙ ap₂ (λ rows m. part c (treeAt rows 0 5 (places m))) (sym (b .0)) count-is;
+      }
     where
       front-long : (ws : List ℕ) → size (cellsIn ws) ≤ length ws → length (take 47 ws) ≡ 47
       front-long ws l = simp length-take (omega arith)
@@ -130,5 +132,6 @@ module _ (ws : List ℕ) where
           rows = same-true _ _ (and-left (same (rowsOf ws) (rowsText ipv4 (tableOf ipv4 ws))) _ w);
           rising = and-left (risingFrom 0 (tableOf ipv4 ws .rules)) _ v;
           right = and-right (risingFrom 0 (tableOf ipv4 ws .rules)) _ v;
-          tree = same-true _ _ (sym ed ∙ t) }))
+          tree = same-true _ _ (sym ed ∙ t);
+        }))
         (λ t. ed ∙ true-same _ _ (sound ws t .tree))

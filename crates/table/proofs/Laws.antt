@@ -55,12 +55,12 @@ data Word (j : ℕ) : Type 0 where
 which : (j : ℕ) → Word j
 which j =
     by-test (eqb j 0) (λ t. is-number (eqb-true j 0 t)) (λ t.
-      by-test (eqb j 1) (λ u. is-action (eqb-true j 1 u)) (λ u.
-        let a : j ≡ 0 → ⊥ = eqb-false j 0 t in
-        let b : j ≡ 1 → ⊥ = eqb-false j 1 u in
-        by-test (eqb (j % 2) 0)
-        (λ v. let d : j % 2 ≡ 0 = eqb-true (j % 2) 0 v in is-low (j / 2 - 1) (omega arith))
-        (λ v. let d : j % 2 ≡ 0 → ⊥ = eqb-false (j % 2) 0 v in is-high (j / 2 - 1) (omega arith))))
+    by-test (eqb j 1) (λ u. is-action (eqb-true j 1 u)) (λ u.
+    let a : j ≡ 0 → ⊥ = eqb-false j 0 t in
+    let b : j ≡ 1 → ⊥ = eqb-false j 1 u in
+    by-test (eqb (j % 2) 0)
+    (λ v. let d : j % 2 ≡ 0 = eqb-true (j % 2) 0 v in is-low (j / 2 - 1) (omega arith))
+    (λ v. let d : j % 2 ≡ 0 → ⊥ = eqb-false (j % 2) 0 v in is-high (j / 2 - 1) (omega arith))))
 
 -- the row of no rule is zeros
 pub row-none : (j : ℕ) → rowWord noRule j ≡ 0

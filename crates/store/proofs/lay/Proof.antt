@@ -28,8 +28,7 @@ slice-aggregate-plant c = sym (ap length (c .before .before .before .places .ens
 plant-requires : tie.Need-plant-requires
 plant-requires c κs =
     let s = c .before .before .before .before .before .before .before .before .before .before .before in
-    let e = c .before .before .before .places .ensures in
-    (
+    let e = c .before .before .before .places .ensures in (
       lay-part (s .args .c) (s .args .n) (s .args .words .now) (s .args .rows .now) _ (c .before .before .before .before .before .before .before .write-front .ensures) (s .pre .1 .whole) ∙ s .pre .0 .free,
       s .pre .0 .most,
       rw e (s .pre .1 .room),

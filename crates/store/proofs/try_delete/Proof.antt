@@ -31,8 +31,7 @@ take-out-requires c κs =
 returns-4 : tie.Need-returns-4
 returns-4 c =
     let s = c .before .before .before .before .before .before .before .before .before .before .before .before .before .before .before .before .before in
-    let t = sym (c .before .before .before .before .before .before .stands-behind .ensures) ∙ not-false _ (c .before .before .before .before .before .if3 .left) in
-    (
+    let t = sym (c .before .before .before .before .before .before .stands-behind .ensures) ∙ not-false _ (c .before .before .before .before .before .if3 .left) in (
       delete-0 (c .before .before .before .before .before .before .before .before .before .before .before .before .before .before .before .before .before .args .words .now) (s .args .number) (sym (c .before .before .before .before .before .before .before .before .before .before .before .before .before .before .check .ensures) ∙ not-false _ (c .before .before .before .before .before .before .before .before .before .before .before .before .before .if1 .left)) (c .before .before .before .before .before .before .before .before .before .before .before .before .if2 .left) t,
       λ e. c .before .before .take-out .ensures ∙ deleted-rows (c .before .before .before .before .before .before .before .before .before .before .before .before .before .before .before .before .before .args .words .now) (s .args .number) (sym (c .before .before .before .before .before .before .before .before .before .before .before .before .before .before .check .ensures) ∙ not-false _ (c .before .before .before .before .before .before .before .before .before .before .before .before .before .if1 .left)) t (c .before .before .before .before .before .before .before .before .before2 .result) (c .before .before .before .before .before .before .before .before .before2 .ensures .0),
     )
