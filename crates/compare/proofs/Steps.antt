@@ -25,7 +25,8 @@ use Rattle.model.specs.Lists.{same}
 use Rattle.compare.specs.Compare.{Room, from, told, headIs, restIs, before, headsAre, toldRun}
 use Rattle.model.proofs.UpTo.{same-true, true-same, same-false}
 use Rattle.compare.proofs.Answers.{was-no, was-yes, answer-no, answer-differs, answer-same}
-use Rattle.compare.proofs.Text.{marks-len, cells-sum, Cell, cell-rest, cell-here, cell-head, cell-others, cell-inside, cell-of, Held, Parts, text-parts, text-rest, parts-held, told-same, told-differs, told-not, told-held, told-inside}
+use Rattle.cells.proofs.Text.{marks-len, cells-sum}
+use Rattle.compare.proofs.Text.{Cell, cell-rest, cell-here, cell-head, cell-others, cell-inside, cell-of, Held, Parts, text-parts, text-rest, parts-held, told-same, told-differs, told-not, told-held, told-inside}
 
 -- THE RUN. What a rising list keeps from a bound on is its end.
 keep-end : (es : List ℕ) → Rising es → (b : ℕ) → (n : ℕ) × (keep (leb b) es ≡ drop n es)

@@ -12,6 +12,7 @@ use borrow.Author.Tests.{eqb-true, eq-eqb}
 use Rattle.model.specs.Rules.{Tree, names, stop, loc, cells}
 use Rattle.model.proofs.Tests.{and-left, and-right}
 use Rattle.cells.specs.Text.{word, cell, frees, Run, nil, snoc, len, low, row, width, under, first, marks, belows, text, part}
+use Rattle.cells.proofs.Text.{row-length, marks-len, belows-length, frees-length, cells-sum}
 use Rattle.compare.specs.declared.Told.the-variants.{Same, Differs}
 use Rattle.model.specs.Lists.{same}
 use Rattle.compare.specs.Compare.{Room, from, told, headIs, restIs}
@@ -19,41 +20,10 @@ use Rattle.model.proofs.UpTo.{same-true, true-same}
 use Rattle.compare.proofs.Answers.{answer-no, answer-differs, answer-same}
 
 -- sizes
-pub marks-len : (c : ℕ) (t : Tree ℕ) (b : ℕ) → len (marks c t b) ≡ width t
-unfolding marks len width
-marks-len c (names x) b = refl
-marks-len c stop b = refl
-marks-len c (loc e u t) b = ap (λ n. n + 1) (marks-len c t b)
-
-pub cells-sum : (t : Tree ℕ) → cells t ≡ width t + under t
-unfolding width under
-cells-sum (names x) = omega arith
-cells-sum stop = omega arith
-cells-sum (loc e u t) = omega (arith, cells-sum u, cells-sum t)
-
-row-length : (c : ℕ) (s : Run) (a : ℕ) (r : List ℕ) → length (row c s a r) ≡ 8 * len s + length r
-unfolding row len
-row-length c nil a r = omega arith
-row-length c (snoc s e d) a r = omega (arith, row-length c s a (cell e (low c s a) d r))
-
-belows-length : (c : ℕ) (t : Tree ℕ) (b : ℕ) (r : List ℕ) → length (belows c t b r) ≡ 8 * under t + length r
-unfolding belows under
-belows-length c (names x) b r = omega arith
-belows-length c stop b r = omega arith
-belows-length c (loc e u t) b r =
-    let y = b + under t in
-    let z = y + width u in
-    omega (arith, belows-length c t b (text c u y r), row-length c (marks c u z) y (belows c u z r), marks-len c u z, belows-length c u z r)
-
 pub text-length : (c : ℕ) (t : Tree ℕ) (a : ℕ) (r : List ℕ) → length (text c t a r) ≡ 8 * cells t + length r
 text-length c t a r =
     let b = a + width t in
     omega (arith, cells-sum t, row-length c (marks c t b) a (belows c t b r), marks-len c t b, belows-length c t b r)
-
-frees-length : (k n : ℕ) → length (frees k n) ≡ 8 * n
-unfolding frees
-frees-length k zero = omega arith
-frees-length k (suc n) = omega (arith, frees-length (k + 1) n)
 
 -- words that are the part of a tree have room for it
 pub part-fits : (ws : List ℕ) (c : ℕ) (t : Tree ℕ) → same ws (part c t) ≡ true → length ws ≡ 2 + 8 * c → cells t ≤ c

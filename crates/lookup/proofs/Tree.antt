@@ -13,15 +13,11 @@ use lib.Seq.{getD-drop, drop-drop}
 use borrow.Author.Tests.{ltb-true, ltb-false, le-leb}
 use Rattle.model.specs.Rules.{Tree, names, stop, loc, cells, found, reads}
 use Rattle.cells.specs.Text.{at, word, cell, frees, Run, nil, snoc, len, low, row, width, under, first, marks, belows, part}
+use Rattle.cells.specs.Planted.{Deep}
+use Rattle.cells.proofs.Text.{marks-len, cells-sum}
 use Rattle.lookup.specs.declared.Walked.the-variants.{At}
 use Rattle.lookup.specs.Walk.{seekOf, onFrom, throughOf, walkOf, cellsIn, partIn, ruleIn, lookupOf}
 use Rattle.lookup.proofs.Steps.{seek-here, seek-next, enough-words}
-
--- a tree over d fields
-unfoldable pub Deep : Tree ℕ → ℕ → Type 0
-Deep (names b) d = d ≡ 0
-Deep stop d = 0 < d
-Deep (loc e u t) d = (0 < d) × Deep t d × Deep u (d - 1)
 
 -- what stands behind a run, and behind all that is below a chain
 pub row-past : (c : ℕ) (s : Run) (a : ℕ) (r : List ℕ) → drop (8 * len s) (row c s a r) ≡ r
@@ -30,12 +26,6 @@ row-past c nil a r = refl
 row-past c (snoc s e d) a r =
     let z : 8 * (len s + 1) ≡ 8 * len s + 8 = omega arith in
     rw (z, ← drop-drop 8 (8 * len s) (row c s a (cell e (low c s a) d r)), row-past c s a (cell e (low c s a) d r))
-
-pub marks-len : (c : ℕ) (t : Tree ℕ) (b : ℕ) → len (marks c t b) ≡ width t
-unfolding marks len width
-marks-len c (names x) b = refl
-marks-len c stop b = refl
-marks-len c (loc e u t) b = ap (λ k. k + 1) (marks-len c t b)
 
 pub belows-past : (c : ℕ) (t : Tree ℕ) (b : ℕ) (r : List ℕ) → drop (8 * under t) (belows c t b r) ≡ r
 unfolding belows under
@@ -48,12 +38,6 @@ belows-past c (loc e u t) b r =
     let n : 8 * (under t + (width u + under u)) ≡ 8 * under t + (8 * len s + 8 * under u) = omega (arith, marks-len c u z) in
     rw (n, ← drop-drop (8 * len s + 8 * under u) (8 * under t) (belows c t b (row c s y (belows c u z r))), belows-past c t b (row c s y (belows c u z r)), ← drop-drop (8 * under u) (8 * len s) (row c s y (belows c u z r)), row-past c s y (belows c u z r))
     (belows-past c u z r)
-
-pub cells-sum : (t : Tree ℕ) → cells t ≡ width t + under t
-unfolding width under
-cells-sum (names x) = refl
-cells-sum stop = refl
-cells-sum (loc e u t) = omega (arith, cells-sum u, cells-sum t)
 
 -- where the next cell of a chain's lowest location leads
 low-first : (c : ℕ) (t : Tree ℕ) (a b d : ℕ) → Deep t d → 0 < d → low c (marks c t b) a ≡ first c t a
@@ -156,9 +140,9 @@ module _ (w : List ℕ) (c : ℕ) where
   seeks (loc e u t) a b o v vs d n r q p h f =
       let y : suc (length vs) - 1 ≡ length vs = omega arith in
       let below = under-stands e u t a b o in
-      step e u t a b o v vs (d .1)
-      (seeks t a b (rest-stands e u t a b o) v vs (d .1))
-      (walks u (b + under t) vs (rw y at (d .2)) (below .wide) (seeks u (b + under t) (b + under t + width u) below))
+      step e u t a b o v vs (d .2)
+      (seeks t a b (rest-stands e u t a b o) v vs (d .2))
+      (walks u (b + under t) vs (rw y at (d .1)) (below .wide) (seeks u (b + under t) (b + under t + width u) below))
       n r q p h f
 
 -- THE WALK over a part that holds a tree of as many fields as there are values

@@ -9,7 +9,7 @@ use native.Mathlib.Omega.{arith}
 use lib.Dec.{eqb, leb}
 use lib.ListN.{length}
 use borrow.Author.Tests.{eqb-true, eqb-false, le-leb}
-use Rattle.model.specs.Lists.{In, Sub, Rising, keep}
+use Rattle.model.specs.Lists.{In, Sub, Same, Rising, keep}
 use Rattle.model.specs.Rules.{Field, covers, ends, Tree, chain, tree, cells}
 use Rattle.model.proofs.Tests.{by-test}
 use Rattle.model.proofs.Keep.{keep-sub}
@@ -40,6 +40,10 @@ fewer g k (f ∷ fs) xs ys s =
     chain-fewer (λ e. tree g fs (keep (covers f e) xs)) (λ e. tree k fs (keep (covers f e) ys))
     (λ e. fewer g k fs (keep (covers f e) xs) (keep (covers f e) ys) (keep-sub (covers f e) xs ys s))
     (ends f ys) (ends f xs) (ends-rising f xs) (ends-rising f ys) (ends-sub f xs ys s)
+
+-- so the number of cells depends on the set of rules alone
+pub cells-same : {P A B C : Type 0} (g : List A → B) (k : List A → C) (fs : List (Field P A)) (xs ys : List A) → Same xs ys → cells (tree g fs xs) ≡ cells (tree k fs ys)
+cells-same g k fs xs ys s = omega (arith, fewer g k fs xs ys (s .0), fewer k g fs ys xs (s .1))
 
 -- a rule alone whose low ends are 0 takes one cell for each field
 pub alone : {P A B : Type 0} (g : List A → B) (fs : List (Field P A)) (d : A) → Lowest fs d → cells (tree g fs (d ∷ [])) ≡ length fs
