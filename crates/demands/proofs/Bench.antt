@@ -1,0 +1,116 @@
+-- The starred list holds of the words. Each call is followed by the laws of a store; what is computed is the answer for a table, never a store's words.
+-- Assumes nothing.
+use mathlib.Core.Path.{_≡_, refl, ap, ap₂, _∙_}
+use mathlib.Core.Bool.{cond}
+use mathlib.Core.List.{List, [], _∷_, map}
+use Prim.Native.Nat.{ℕ, _≤_}
+use native.Mathlib.Omega.{arith}
+use lib.Dec.{ltb}
+use lib.ListN.{length}
+use borrow.Author.Tests.{le-ltb}
+use Rattle.model.specs.Bench.{rule10, rule20, rows, decided, starred, packet, fresh as alone, both as rules}
+use Rattle.model.specs.Table.{Rule, Table, withRule, without, insertAnswer, deleteAnswer, cellsOf, winnerOf, readsOf}
+use Rattle.model.specs.Ipv4.{ipv4}
+use Rattle.stored.specs.Store.{size, cellsIn, tableOf, startAnswer, startWords, insertSays, insertWords, deleteSays, deleteWords, cellsGives}
+use Rattle.stored.proofs.Sound.{room-is}
+use Rattle.lookup.specs.declared.Found.{Found}
+use Rattle.demands.specs.Calls.{Passes, lookup}
+use Rattle.demands.specs.Bench.{again, packetOf, told, Taken, Full, Starred}
+use Rattle.demands.proofs.Held.{start-leaves, insert-leaves, delete-leaves}
+use Rattle.demands.proofs.Decided.{lookup-says}
+
+-- the words are a store of c cells that passes and holds t
+record Is (ws : List ℕ) (c : ℕ) (t : Table) : Type 0 where
+  pass : Passes ws
+  table : tableOf ipv4 ws ≡ t
+  cells : cellsIn ws ≡ c
+
+started : (lent : List ℕ) (c : ℕ) → 5 ≤ c → c ≤ 65536 → size c ≤ length lent → startAnswer ipv4 lent c ≡ 0
+started lent c a b l = rw (room-is c lent (record { least = a; most = b; long = l }))
+
+is-fresh : (lent : List ℕ) (c a : ℕ) → startAnswer ipv4 lent c ≡ 0 → Is (startWords ipv4 lent c a) c (record { action = a; rules = [] })
+is-fresh lent c a h = let l = start-leaves lent c a h in record { pass = l .pass; table = l .table; cells = l .cells }
+
+module _ {ws : List ℕ} {c : ℕ} {t : Table} (s : Is ws c t) where
+  says : (r : Rule) → insertSays ipv4 ws r ≡ insertAnswer ipv4 c t r
+  says r = rw (s .pass) (ap₂ (λ (n : ℕ) (x : Table). insertAnswer ipv4 n x r) (s .cells) (s .table))
+
+  is-with : (r : Rule) → insertAnswer ipv4 c t r ≡ 0 → Is (insertWords ipv4 ws r) c (withRule r t)
+  is-with r h = let l = insert-leaves ws r (says r ∙ h) in record { pass = l .pass; table = l .table ∙ ap (withRule r) (s .table); cells = l .cells ∙ s .cells }
+
+  goes-says : (n : ℕ) → deleteSays ipv4 ws n ≡ deleteAnswer t n
+  goes-says n = rw (s .pass) (ap (λ (x : Table). deleteAnswer x n) (s .table))
+
+  is-without : (n : ℕ) → deleteAnswer t n ≡ 0 → Is (deleteWords ipv4 ws n) c (without n t)
+  is-without n h = let l = delete-leaves ws n (goes-says n ∙ h) in record { pass = l .pass; table = l .table ∙ ap (without n) (s .table); cells = l .cells ∙ s .cells }
+
+  counts : cellsGives ipv4 ws ≡ cellsOf ipv4 t
+  counts = rw (s .pass) (ap (cellsOf ipv4) (s .table))
+
+-- THE LOOKUPS in a store that holds both rules
+module _ {ws : List ℕ} {c : ℕ} (s : Is ws c rules) where
+  -- of a row's values, none above its top
+  row : (destination protocol port : ℕ) → destination ≤ 4294967295 → protocol ≤ 255 → port ≤ 65535 → lookup ws (packetOf (packet destination protocol port)) ≡ told (decided (packet destination protocol port))
+  row destination protocol port a b d =
+      lookup-says ws (packetOf (packet destination protocol port)) (s .pass) (record { destination-top = a; source-top = omega arith; protocol-top = b; destination-port-top = d; source-port-top = omega arith })
+      ∙ ap says-of (s .table)
+    where
+      says-of : Table → Found
+      says-of x = record { answer = 0; rule = winnerOf ipv4 x (packet destination protocol port) .number; action = winnerOf ipv4 x (packet destination protocol port) .action; reads = readsOf ipv4 x (packet destination protocol port) }
+
+  all-rows : map (λ r. lookup ws (packetOf (r .asked))) rows ≡ map told rows
+  all-rows =
+      (λ i.
+      row 167772165 17 5004 (omega arith) (omega arith) (omega arith) i
+      ∷ row 167772165 6 80 (omega arith) (omega arith) (omega arith) i
+      ∷ row 167772165 17 5010 (omega arith) (omega arith) (omega arith) i
+      ∷ row 167772360 6 80 (omega arith) (omega arith) (omega arith) i
+      ∷ row 167772360 17 5010 (omega arith) (omega arith) (omega arith) i
+      ∷ row 167772416 6 80 (omega arith) (omega arith) (omega arith) i
+      ∷ row 167772159 6 80 (omega arith) (omega arith) (omega arith) i
+      ∷ [])
+      ∙ ap (map told) (starred .lookups)
+
+-- the last line of insert's answer
+room : (c k : ℕ) → k ≤ c → _≡_ {A = ℕ} (cond (ltb c k) 6 0) 0
+room c k h = rw (le-ltb c k h)
+
+taken : (lent : List ℕ) (c : ℕ) → 40 ≤ c → c ≤ 65536 → size c ≤ length lent → Taken lent c
+taken lent c a b l =
+    let h = started lent c (omega arith) b l in
+    let s = is-fresh lent c 1 h in
+    let r10 : insertAnswer ipv4 c alone rule10 ≡ 0 = room c 25 (omega arith) in
+    let r20 : insertAnswer ipv4 c alone rule20 ≡ 0 = room c 15 (omega arith) in
+    let s10 = is-with s rule10 r10 in
+    let s20 = is-with s rule20 r20 in
+    let q20 : insertAnswer ipv4 c (withRule rule10 alone) rule20 ≡ 0 = room c 40 a in
+    let q10 : insertAnswer ipv4 c (withRule rule20 alone) rule10 ≡ 0 = room c 40 a in
+    let sb = is-with s10 rule20 q20 in
+    let sb' = is-with s20 rule10 q10 in
+    record {
+      start = h;
+      first-10 = says s rule10 ∙ r10;
+      first-20 = says s rule20 ∙ r20;
+      then-20 = says s10 rule20 ∙ q20;
+      then-10 = says s20 rule10 ∙ q10;
+      goes = goes-says sb 20;
+      lookups = all-rows sb;
+      cells-20 = counts s20 ∙ starred .cells20;
+      cells-10 = counts s10 ∙ starred .cells10;
+      cells-both = counts sb ∙ starred .cells-both;
+      cells-both' = counts sb' ∙ ap (cellsOf ipv4) (starred .either-order) ∙ starred .cells-both;
+      cells-again = counts (is-without sb 20 refl) ∙ ap (cellsOf ipv4) (starred .again) ∙ starred .cells10;
+    }
+
+full : (lent : List ℕ) → size 39 ≤ length lent → Full lent
+full lent l =
+    let s = is-fresh lent 39 1 (started lent 39 (omega arith) (omega arith) l) in
+    record {
+      first-10 = says s rule10;
+      first-20 = says s rule20;
+      then-20 = says (is-with s rule10 refl) rule20 ∙ starred .full-39;
+      then-10 = says (is-with s rule20 refl) rule10 ∙ starred .full-39';
+    }
+
+pub bench : Starred
+bench = record { taken = taken; full = full }

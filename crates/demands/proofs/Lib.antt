@@ -1,0 +1,12 @@
+pub mod Held
+pub mod Decided
+pub mod Values
+pub mod Fields
+pub mod Counted
+pub mod Links
+pub mod Demand1
+pub mod Demand2
+pub mod Demand3
+pub mod Check
+pub mod Bench
+pub mod Shown

@@ -1,0 +1,15 @@
+-- What this crate shows: each page of specs/ that claims something, with its proof.
+-- Assumes nothing.
+use Rattle.demands.specs.Demand1.{Demand1}
+use Rattle.demands.specs.Demand2.{Demand2}
+use Rattle.demands.specs.Demand3.{Demand3}
+use Rattle.demands.specs.Check.{Check}
+use Rattle.demands.specs.Bench.{Starred}
+use Rattle.demands.proofs.Demand1.{demand1}
+use Rattle.demands.proofs.Demand2.{demand2}
+use Rattle.demands.proofs.Demand3.{demand3}
+use Rattle.demands.proofs.Check.{check}
+use Rattle.demands.proofs.Bench.{bench}
+
+pub shown : Demand1 × Demand2 × Demand3 × Check × Starred
+shown = (demand1, demand2, demand3, check, bench)

@@ -1,0 +1,68 @@
+-- THE STARRED LIST of document 01, "Bench table", carried through the calls: a start over any words that are enough for c cells, the inserts, the lookups. c is any number from 40 on, and 39 where document 01 says so. (Its rules and rows are written out in model/specs/Bench.antt, and its two prefixes proved in prefix/specs/Examples.antt.)
+-- `Starred` is what is claimed; proofs/Bench.antt proves it. Assumes nothing.
+use mathlib.Core.Path.{_≡_}
+use mathlib.Core.List.{List, map}
+use Prim.Native.Nat.{ℕ, _≤_}
+use lib.ListN.{length, getD}
+use Rattle.model.specs.Bench.{rule10, rule20, Row, rows}
+use Rattle.model.specs.Ipv4.{ipv4}
+use Rattle.header.specs.declared.Packet.{Packet}
+use Rattle.stored.specs.Store.{size, startAnswer, startWords, insertSays, insertWords, deleteSays, deleteWords, cellsGives}
+use Rattle.lookup.specs.declared.Found.{Found}
+use Rattle.demands.specs.Calls.{lookup}
+
+-- the words of a store of c cells over the words lent: "Default action 1"; with rule 10, with rule 20, with both in either order, and "after rule 20 goes again"
+module _ (lent : List ℕ) (c : ℕ) where
+  abbrev pub fresh : List ℕ
+  fresh = startWords ipv4 lent c 1
+
+  abbrev pub with10 : List ℕ
+  with10 = insertWords ipv4 fresh rule10
+
+  abbrev pub with20 : List ℕ
+  with20 = insertWords ipv4 fresh rule20
+
+  abbrev pub both : List ℕ
+  both = insertWords ipv4 with10 rule20
+
+  abbrev pub both' : List ℕ
+  both' = insertWords ipv4 with20 rule10
+
+  abbrev pub again : List ℕ
+  again = deleteWords ipv4 both 20
+
+-- the five values of a row as a packet's record, and what a lookup of them is to answer: 0, and the row's rule, action and reads
+abbrev pub packetOf : List ℕ → Packet
+packetOf vs = record { destination = getD vs 0 0; source = getD vs 1 0; protocol = getD vs 2 0; «destination_port» = getD vs 3 0; «source_port» = getD vs 4 0 }
+
+abbrev pub told : Row → Found
+told r = record { answer = 0; rule = r .rule; action = r .action; reads = r .reads }
+
+-- with 40 cells or more
+pub record Taken (lent : List ℕ) (c : ℕ) : Type 0 where
+  -- the calls are taken, "with 40 it is taken", in whichever order
+  pub start : startAnswer ipv4 lent c ≡ 0
+  pub first-10 : insertSays ipv4 (fresh lent c) rule10 ≡ 0
+  pub first-20 : insertSays ipv4 (fresh lent c) rule20 ≡ 0
+  pub then-20 : insertSays ipv4 (with10 lent c) rule20 ≡ 0
+  pub then-10 : insertSays ipv4 (with20 lent c) rule10 ≡ 0
+  pub goes : deleteSays ipv4 (both lent c) 20 ≡ 0
+  -- the seven lookups, row by row
+  pub lookups : map (λ r. lookup (both lent c) (packetOf (r .asked))) rows ≡ map told rows
+  -- "Cells: rule 20 alone 15; rule 10 alone 25; both 40, in whichever order they came; after rule 20 goes again, 25"
+  pub cells-20 : cellsGives ipv4 (with20 lent c) ≡ 15
+  pub cells-10 : cellsGives ipv4 (with10 lent c) ≡ 25
+  pub cells-both : cellsGives ipv4 (both lent c) ≡ 40
+  pub cells-both' : cellsGives ipv4 (both' lent c) ≡ 40
+  pub cells-again : cellsGives ipv4 (again lent c) ≡ 25
+
+-- "With c = 39 the second insert gets 6", in whichever order
+pub record Full (lent : List ℕ) : Type 0 where
+  pub first-10 : insertSays ipv4 (fresh lent 39) rule10 ≡ 0
+  pub first-20 : insertSays ipv4 (fresh lent 39) rule20 ≡ 0
+  pub then-20 : insertSays ipv4 (with10 lent 39) rule20 ≡ 6
+  pub then-10 : insertSays ipv4 (with20 lent 39) rule10 ≡ 6
+
+pub record Starred : Type 0 where
+  pub taken : (lent : List ℕ) (c : ℕ) → 40 ≤ c → c ≤ 65536 → size c ≤ length lent → Taken lent c
+  pub full : (lent : List ℕ) → size 39 ≤ length lent → Full lent

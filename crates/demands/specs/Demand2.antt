@@ -1,0 +1,62 @@
+-- DEMAND 2. "In a store that the store check passes, a lookup names the rule with the least number among those whose five ranges all hold the packet's five values, the default rule included. Those values are what RFC 791, RFC 768 and RFC 9293 put in the header, with the port rule of document 01. An accepted insert adds that rule, an accepted delete takes it out, and every other rule stays."
+-- `Demand2` is what is claimed; proofs/Demand2.antt proves it. Assumes nothing.
+use mathlib.Core.Path.{_≡_}
+use mathlib.Core.Logic.{_⊎_, _↔_, _≢_}
+use mathlib.Core.List.{List, []}
+use Prim.Native.Nat.{ℕ, _≤_}
+use Rattle.model.specs.Lists.{In}
+use Rattle.model.specs.Table.{Rule, defaultRule}
+use Rattle.model.specs.Ipv4.{ipv4}
+use Rattle.header.specs.declared.Packet.{Packet}
+use Rattle.header.specs.declared.Header.the-variants.{Values}
+use Rattle.header.specs.Header.{headerOf}
+use Rattle.header.specs.Facts.{WithinTops}
+use Rattle.stored.specs.Store.{cellsIn, startAnswer, startWords, insertSays, insertWords, deleteSays, deleteWords, readSays, readGives}
+use Rattle.lookup.specs.declared.Found.{Found}
+use Rattle.lookup.specs.Walk.{lookupPacket}
+use Rattle.demands.specs.Calls.{Passes, rulesIn, defaultIn, everyIn, Holds, Bytes, lookup}
+
+-- the lookup of the packet p in the words ws names the right rule
+pub record Names (ws : List ℕ) (p : Packet) (found : Found) : Type 0 where
+  pub answer : found .answer ≡ 0
+  -- there is a rule, of the store's or the default, whose number and action the answer gives
+  pub rule : Rule
+  pub one-of : In rule (everyIn ws)
+  pub number : found .rule ≡ rule .number
+  pub action : found .action ≡ rule .action
+  -- its five ranges hold the packet's five values
+  pub holds : Holds 5 p rule
+  -- and no rule that holds them has a lesser number
+  pub least : (s : Rule) → In s (everyIn ws) → Holds 5 p s → rule .number ≤ s .number
+  -- no other rule of the store has its number
+  pub only : (s : Rule) → In s (everyIn ws) → s .number ≡ rule .number → s ≡ rule
+
+-- an accepted edit left the words after: a store that passes, with just the rules that R says, and the default and the number of cells as they were
+pub record Edited (before after : List ℕ) (R : Rule → Type 0) : Type 0 where
+  pub passes : Passes after
+  pub rules : (s : Rule) → In s (rulesIn after) ↔ R s
+  pub default : defaultIn after ≡ defaultIn before
+  pub cells : cellsIn after ≡ cellsIn before
+
+-- an accepted start left the words after: a store of c cells that passes, with the default alone
+pub record Fresh (c a : ℕ) (after : List ℕ) : Type 0 where
+  pub passes : Passes after
+  pub rules : rulesIn after ≡ []
+  pub default : defaultIn after ≡ a
+  pub cells : cellsIn after ≡ c
+
+pub record Demand2 : Type 0 where
+  -- the lookup by values, none above its top
+  pub by-values : (ws : List ℕ) → Passes ws → (p : Packet) → WithinTops p → Names ws p (lookup ws p)
+  -- the lookup by a packet whose header gives the values p: `headerOf` of header/specs/Header.antt says where the RFCs put each. They are never above their tops.
+  pub by-packet : (ws : List ℕ) → Passes ws → (bytes : List ℕ) → Bytes bytes → (p : Packet) → headerOf bytes ≡ Values p → WithinTops p × Names ws p (lookupPacket ws bytes)
+  -- "The default rule has number 65,535 and full ranges": it is always there
+  pub default : (ws : List ℕ) → In (defaultRule ipv4 (defaultIn ws)) (everyIn ws)
+  -- "An accepted insert adds that rule, [..] and every other rule stays"
+  pub insert : (ws : List ℕ) (r : Rule) → insertSays ipv4 ws r ≡ 0 → Edited ws (insertWords ipv4 ws r) (λ s. (s ≡ r) ⊎ In s (rulesIn ws))
+  -- "an accepted delete takes it out, and every other rule stays"
+  pub delete : (ws : List ℕ) (n : ℕ) → deleteSays ipv4 ws n ≡ 0 → Edited ws (deleteWords ipv4 ws n) (λ s. In s (rulesIn ws) × (s .number ≢ n))
+  -- what all edits begin with
+  pub start : (ws : List ℕ) (c a : ℕ) → startAnswer ipv4 ws c ≡ 0 → Fresh c a (startWords ipv4 ws c a)
+  -- and a rule that is read is the store's rule of that number
+  pub read : (ws : List ℕ) (n : ℕ) → readSays ipv4 ws n ≡ 0 → In (readGives ipv4 ws n) (everyIn ws) × (readGives ipv4 ws n .number ≡ n)

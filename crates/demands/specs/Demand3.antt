@@ -1,0 +1,87 @@
+-- DEMAND 3. "Take two fresh stores and any two runs of edits, refused ones among them, that leave the same rules and the same default. Every packet then gets the same answer and the same count of reads from both, and both use the same number of cells. The count is, summed over the fields, one plus the distinct ends, as document 01 has them, below the packet's value, taken over the rules that hold its earlier values."
+-- `Demand3` is what is claimed; proofs/Demand3.antt proves it. Assumes nothing.
+use mathlib.Core.Path.{_≡_}
+use mathlib.Core.Logic.{_⊎_, _↔_}
+use mathlib.Core.List.{List, [], _∷_}
+use Prim.Native.Nat.{ℕ, _+_, _*_, _≤_, _<_}
+use lib.ListN.{length, take}
+use Rattle.model.specs.Lists.{In, Same, Rising}
+use Rattle.model.specs.Table.{Rule}
+use Rattle.model.specs.Ipv4.{ipv4}
+use Rattle.header.specs.declared.Packet.{Packet}
+use Rattle.header.specs.declared.Header.the-variants.{Values}
+use Rattle.header.specs.Header.{headerOf}
+use Rattle.header.specs.Facts.{WithinTops}
+use Rattle.stored.specs.Store.{size, cellsIn, startAnswer, startWords, insertWords, deleteWords, cellsSays, cellsGives}
+use Rattle.lookup.specs.Walk.{lookupPacket}
+use Rattle.demands.specs.Calls.{Passes, rulesIn, defaultIn, everyIn, value, low, high, Holds, Bytes, lookup}
+
+-- AN EDIT, and the words that it leaves, accepted or refused; a run of edits
+pub data Edit : Type 0 where
+  insert : Rule → Edit
+  delete : ℕ → Edit
+
+abbrev pub edited : List ℕ → Edit → List ℕ
+edited ws (insert r) = insertWords ipv4 ws r
+edited ws (delete n) = deleteWords ipv4 ws n
+
+abbrev pub run : List ℕ → List Edit → List ℕ
+run ws [] = ws
+run ws (e ∷ es) = run (edited ws e) es
+
+-- "a fresh store" and a run of edits on it
+pub record History : Type 0 where
+  -- the words that the start was lent, whatever stood in them; the number of cells and the default's action that it was given
+  pub lent : List ℕ
+  pub cells : ℕ
+  pub action : ℕ
+  pub started : startAnswer ipv4 lent cells ≡ 0
+  -- the edits, "refused ones among them"
+  pub edits : List Edit
+
+-- the words that it leaves
+abbrev pub words : History → List ℕ
+words h = run (startWords ipv4 (h .lent) (h .cells) (h .action)) (h .edits)
+
+-- "that leave the same rules and the same default": the same set of rules, in whatever order they came
+pub record SameRules (g h : History) : Type 0 where
+  pub rules : Same (rulesIn (words g)) (rulesIn (words h))
+  pub default : defaultIn (words g) ≡ defaultIn (words h)
+
+-- two stores that no call by values or by a packet tells apart, with as many cells in use
+pub record Alike (ws vs : List ℕ) : Type 0 where
+  -- the answer, the rule, the action and the count of reads
+  pub by-values : (p : Packet) → lookup ws p ≡ lookup vs p
+  pub by-packet : (bytes : List ℕ) → lookupPacket ws bytes ≡ lookupPacket vs bytes
+  pub cells-answer : cellsSays ipv4 ws ≡ cellsSays ipv4 vs
+  pub cells : cellsGives ipv4 ws ≡ cellsGives ipv4 vs
+
+-- "The ends of a rule in a field are its high end and, if its low end is above 0, the low end less 1."
+abbrev pub End : Rule → ℕ → ℕ → Type 0
+End r i e = (e ≡ high r i) ⊎ (e + 1 ≡ low r i)
+
+-- e is, in field i, one of the "ends [..] below the packet's value, taken over the rules that hold its earlier values"
+abbrev pub Counted : List Rule → Packet → ℕ → ℕ → Type 0
+Counted rules p i e = (e < value p i) × ((r : Rule) × In r rules × Holds i p r × End r i e)
+
+-- the count of reads for the packet p over these rules
+pub record Reads (rules : List Rule) (p : Packet) (reads : ℕ) : Type 0 where
+  -- for each field a list of these ends: all of them, nothing else, and each once, since the list rises
+  pub ends : ℕ → List ℕ
+  pub counted : (i : ℕ) → i < 5 → (e : ℕ) → In e (ends i) ↔ Counted rules p i e
+  pub distinct : (i : ℕ) → i < 5 → Rising (ends i)
+  -- "summed over the fields, one plus the distinct ends"
+  pub sum : reads ≡ (1 + length (ends 0)) + (1 + length (ends 1)) + (1 + length (ends 2)) + (1 + length (ends 3)) + (1 + length (ends 4))
+
+pub record Demand3 : Type 0 where
+  -- "Every packet then gets the same answer and the same count of reads from both, and both use the same number of cells"
+  pub alike : (g h : History) → SameRules g h → Alike (words g) (words h)
+  -- more than is asked: where the two have one number of cells, they are the same store, word for word
+  pub same-words : (g h : History) → SameRules g h → g .cells ≡ h .cells → take (size (g .cells)) (words g) ≡ take (size (h .cells)) (words h)
+  -- "Every store left by an accepted start or edit passes", so that demand 2 and the count below hold of it; its number of cells is that of its start
+  pub passes : (g : History) → Passes (words g) × (cellsIn (words g) ≡ g .cells)
+  -- "The count is, ..", over the store's rules, "the default's ends included"
+  pub count : (ws : List ℕ) → Passes ws → (p : Packet) → WithinTops p → Reads (everyIn ws) p (lookup ws p .reads)
+  pub count-packet : (ws : List ℕ) → Passes ws → (bytes : List ℕ) → Bytes bytes → (p : Packet) → headerOf bytes ≡ Values p → Reads (everyIn ws) p (lookupPacket ws bytes .reads)
+  -- "With n rules besides the default it is at most 2 × n + 1 in each field": a bound for the sheet
+  pub most : (ws : List ℕ) → Passes ws → (p : Packet) → WithinTops p → lookup ws p .reads ≤ 5 * (2 * length (rulesIn ws) + 1)
