@@ -112,7 +112,7 @@ module _ (ws : List ℕ) (h : Passes ws) where
 
   deep-is : Deep T 5
   unfolding T stored
-  deep-is = (deep-tree (rowsText ipv4 (tableOf ipv4 ws)) 0 5 (places (length (rulesIn ws))))
+  deep-is = deep-tree (rowsText ipv4 (tableOf ipv4 ws)) 0 5 (places (length (rulesIn ws)))
 
   tree-is : rename (rule ws C) T ≡ treeOf ipv4 (tableOf ipv4 ws)
   unfolding T

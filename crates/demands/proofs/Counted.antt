@@ -10,7 +10,7 @@ use lib.Dec.{ltb}
 use lib.ListN.{length, getD}
 use borrow.Author.Tests.{ltb-true, lt-ltb}
 use Rattle.model.specs.Lists.{In, Rising, keep, below, sum, upTo}
-use Rattle.model.specs.Rules.{Field, covers, ends, readsSum}
+use Rattle.model.specs.Rules.{Field, covers, ends, readsEach, readsSum}
 use Rattle.model.specs.Table.{Rule, fieldsFrom, fields}
 use Rattle.model.specs.Ipv4.{ipv4}
 use Rattle.model.proofs.Tests.{by-test}
@@ -98,6 +98,12 @@ module _ (vs : List ℕ) where
   sum-endsAt [] i rs = refl
   sum-endsAt (t ∷ ts) i rs = omega (arith, keep-below (getD vs i 0) (ends (fieldOf i t) rs), sum-endsAt ts (suc i) (keep (covers (fieldOf i t) (getD vs i 0)) rs))
 
+  -- one more than these ends is what the field counts
+  each-endsAt : (ts : List ℕ) (i : ℕ) (rs : List Rule) (j : ℕ) → j < length ts → In (1 + length (endsAt ts i rs j)) (readsEach (fieldsFrom i ts) vs rs)
+  each-endsAt [] i rs j l = absurd (omega arith)
+  each-endsAt (t ∷ ts) i rs zero l = inl (omega (arith, keep-below (getD vs i 0) (ends (fieldOf i t) rs)))
+  each-endsAt (t ∷ ts) i rs (suc j) l = inr (each-endsAt ts (suc i) (keep (covers (fieldOf i t) (getD vs i 0)) rs) j (omega arith))
+
 -- THE COUNT over the five fields
 pub counted : (p : Packet) (rs : List Rule) → Reads rs p (readsSum (fields ipv4) (valuesOf (Values p)) rs)
 unfolding upTo
@@ -109,3 +115,7 @@ counted p rs =
       distinct = λ i l. endsAt-rising vs (ipv4 .tops) 0 rs i;
       sum = omega (arith, sum-endsAt vs (ipv4 .tops) 0 rs);
     }
+
+pub counted-each : (p : Packet) (rs : List Rule) (i : ℕ) → i < 5 → In (1 + length (counted p rs .ends i)) (readsEach (fields ipv4) (valuesOf (Values p)) rs)
+unfolding counted
+counted-each p rs i l = each-endsAt (valuesOf (Values p)) (ipv4 .tops) 0 rs i l

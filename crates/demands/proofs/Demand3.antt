@@ -4,15 +4,15 @@ use mathlib.Core.Path.{_≡_, refl, sym, ap, ap₂, _∙_}
 use mathlib.Core.Logic.{⊎-elim}
 use mathlib.Core.Bool.{Bool, cond}
 use mathlib.Core.List.{List, [], _∷_}
-use Prim.Native.Nat.{ℕ}
+use Prim.Native.Nat.{ℕ, _+_, _*_, _≤_, _<_}
 use lib.Dec.{eqb}
-use lib.ListN.{take}
+use lib.ListN.{length, take}
 use borrow.Author.Tests.{eqb-true, eqb-false}
 use Rattle.model.specs.Table.{Table, winnerOf, readsOf, cellsOf}
 use Rattle.model.specs.Ipv4.{ipv4}
 use Rattle.model.proofs.Tests.{by-test}
 use Rattle.model.proofs.Limits.{same-set}
-use Rattle.model.proofs.Decide.{reads-most}
+use Rattle.model.proofs.Decide.{reads-each, reads-most}
 use Rattle.header.specs.declared.Packet.{Packet}
 use Rattle.header.specs.declared.Header.{Header}
 use Rattle.header.specs.declared.Header.the-variants.{Values, Unreadable}
@@ -21,13 +21,13 @@ use Rattle.header.specs.Facts.{WithinTops, within-tops}
 use Rattle.stored.specs.Store.{size, text, cellsIn, tableOf, passes, unless, startWords, insertSays, deleteSays}
 use Rattle.lookup.specs.declared.Found.{Found}
 use Rattle.lookup.specs.Walk.{lookupHeader, lookupPacket}
-use Rattle.demands.specs.Calls.{Passes, everyIn, Bytes, lookup}
+use Rattle.demands.specs.Calls.{Passes, rulesIn, everyIn, Bytes, lookup}
 use Rattle.demands.specs.Demand1.{AboveTop}
 use Rattle.demands.specs.Demand3.{Edit, insert, delete, edited, run, History, words, SameRules, Alike, Reads, Demand3}
 use Rattle.demands.proofs.Held.{Leaves, right, front, kept, start-leaves, insert-leaves, delete-leaves}
 use Rattle.demands.proofs.Decided.{tops-right, lookup-says}
 use Rattle.demands.proofs.Values.{tops, lookup-above}
-use Rattle.demands.proofs.Counted.{counted}
+use Rattle.demands.proofs.Counted.{counted, counted-each}
 
 -- EVERY STORE OF A RUN passes, and has the cells that it had
 abbrev On : List ℕ → List ℕ → Type 0
@@ -97,7 +97,13 @@ module _ (ws vs : List ℕ) (g : Passes ws) (h : Passes vs) (e : tableOf ipv4 ws
 
 -- THE COUNT
 count : (ws : List ℕ) → Passes ws → (p : Packet) → WithinTops p → Reads (everyIn ws) p (lookup ws p .reads)
-count ws h p t = rw (ap (λ (f : Found). f .reads) (lookup-says ws p h t)) (counted p (everyIn ws))
+count ws h p t =
+    let r = counted p (everyIn ws) in
+    record { ends = r .ends; counted = r .counted; distinct = r .distinct; sum = ap (λ (f : Found). f .reads) (lookup-says ws p h t) ∙ r .sum }
+
+count-each : (ws : List ℕ) (h : Passes ws) (p : Packet) (t : WithinTops p) → (i : ℕ) → i < 5 → 1 + length (count ws h p t .ends i) ≤ 2 * length (rulesIn ws) + 1
+unfolding count
+count-each ws h p t i l = reads-each ipv4 (tableOf ipv4 ws) (valuesOf (Values p)) (tops-right p t) _ (counted-each p (everyIn ws) i l)
 
 packet-count : (ws : List ℕ) → Passes ws → (bytes : List ℕ) → Bytes bytes → (p : Packet) → headerOf bytes ≡ Values p → Reads (everyIn ws) p (lookupPacket ws bytes .reads)
 unfolding lookupPacket
@@ -111,5 +117,6 @@ demand3 =
       passes = stays;
       count = count;
       count-packet = packet-count;
+      most-each = count-each;
       most = λ ws h p t. rw (ap (λ (f : Found). f .reads) (lookup-says ws p h t)) (reads-most ipv4 (tableOf ipv4 ws) (valuesOf (Values p)) (tops-right p t));
     }

@@ -83,5 +83,6 @@ pub record Demand3 : Type 0 where
   -- "The count is, ..", over the store's rules, "the default's ends included"
   pub count : (ws : List ℕ) → Passes ws → (p : Packet) → WithinTops p → Reads (everyIn ws) p (lookup ws p .reads)
   pub count-packet : (ws : List ℕ) → Passes ws → (bytes : List ℕ) → Bytes bytes → (p : Packet) → headerOf bytes ≡ Values p → Reads (everyIn ws) p (lookupPacket ws bytes .reads)
-  -- "With n rules besides the default it is at most 2 × n + 1 in each field": a bound for the sheet
+  -- "With n rules besides the default it is at most 2 × n + 1 in each field", and so in all: a bound for the sheet
+  pub most-each : (ws : List ℕ) (h : Passes ws) (p : Packet) (t : WithinTops p) → (i : ℕ) → i < 5 → 1 + length (count ws h p t .ends i) ≤ 2 * length (rulesIn ws) + 1
   pub most : (ws : List ℕ) → Passes ws → (p : Packet) → WithinTops p → lookup ws p .reads ≤ 5 * (2 * length (rulesIn ws) + 1)

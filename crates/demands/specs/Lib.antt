@@ -1,3 +1,4 @@
+-- To be read in this order: what the demands speak of, the three demands, what the store check says, and document 01's starred list.
 pub mod Calls
 pub mod Demand1
 pub mod Demand2
