@@ -15,6 +15,7 @@ use Rattle.stored.specs.Store.{size, cellsIn, tableOf, startAnswer, startWords,
 use Rattle.stored.proofs.Sound.{room-is}
 use Rattle.lookup.specs.declared.Found.{Found}
 use Rattle.demands.specs.Calls.{Passes, lookup}
+use Rattle.prefix.specs.Prefix.{refuses, rangeOf}
 use Rattle.demands.specs.Bench.{again, packetOf, told, Taken, Full, Starred}
 use Rattle.demands.proofs.Held.{start-leaves, insert-leaves, delete-leaves}
 use Rattle.demands.proofs.Decided.{lookup-says}
@@ -113,4 +114,5 @@ full lent l =
     }
 
 pub bench : Starred
-bench = record { taken = taken; full = full }
+unfolding refuses rangeOf
+bench = record { taken = taken; full = full; prefix = refl; no-prefix = refl }

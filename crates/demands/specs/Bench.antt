@@ -8,6 +8,7 @@ use Rattle.model.specs.Bench.{rule10, rule20, Row, rows}
 use Rattle.model.specs.Ipv4.{ipv4}
 use Rattle.header.specs.declared.Packet.{Packet}
 use Rattle.stored.specs.Store.{size, startAnswer, startWords, insertSays, insertWords, deleteSays, deleteWords, cellsGives}
+use Rattle.prefix.specs.Prefix.{rangeOf}
 use Rattle.lookup.specs.declared.Found.{Found}
 use Rattle.demands.specs.Calls.{lookup}
 
@@ -66,3 +67,6 @@ pub record Full (lent : List ℕ) : Type 0 where
 pub record Starred : Type 0 where
   pub taken : (lent : List ℕ) (c : ℕ) → 40 ≤ c → c ≤ 65536 → size c ≤ length lent → Taken lent c
   pub full : (lent : List ℕ) → size 39 ≤ length lent → Full lent
+  -- "Prefix 10.0.0.0 of length 24 gives 167,772,160 to 167,772,415; 10.0.0.1 of length 24 gets 10"
+  pub prefix : rangeOf 167772160 24 ≡ record { answer = 0; low = 167772160; high = 167772415 }
+  pub no-prefix : rangeOf 167772161 24 ≡ record { answer = 10; low = 0; high = 0 }
