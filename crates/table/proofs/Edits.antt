@@ -73,19 +73,19 @@ module _ (k : Kind) (t : Table) (r : Rule) (p : ℕ) (e : p ≡ suc (ahead (r .n
   unfolding rowsText
   put-rows rows row f g = upTo-same 975 (putWord rows p row) (rowsWord k (withRule r t)) (λ i h. by-test (ltb i (15 * p))
       (λ u.
-        let a = ltb-true i (15 * p) u in
-        rw u (ap (λ l. getD l i 0) f ∙ rows-at k t i h ∙ ap (λ x. rowWord x (i % 15)) (sym (placed-before (i / 15) (omega arith)))))
+      let a = ltb-true i (15 * p) u in
+      rw u (ap (λ l. getD l i 0) f ∙ rows-at k t i h ∙ ap (λ x. rowWord x (i % 15)) (sym (placed-before (i / 15) (omega arith)))))
       (λ u.
-        let a = ltb-false i (15 * p) u in
-        by-test (ltb i (15 * p + 15))
-        (λ v.
-          let b = ltb-true i (15 * p + 15) v in
-          let z : i - 15 * p ≡ i % 15 = omega arith in
-          rw (u, v) (g (i - 15 * p) (omega arith) ∙ rw (z, placed-here (i / 15) (omega arith))))
-        (λ v.
-          let b = ltb-false i (15 * p + 15) v in
-          let z : (i - 15) % 15 ≡ i % 15 = omega arith in
-          rw (u, v) (ap (λ l. getD l (i - 15) 0) f ∙ rows-at k t (i - 15) (omega arith) ∙ rw (z, placed-behind (i / 15) ((i - 15) / 15) (omega arith) (omega arith))))))
+      let a = ltb-false i (15 * p) u in
+      by-test (ltb i (15 * p + 15))
+      (λ v.
+      let b = ltb-true i (15 * p + 15) v in
+      let z : i - 15 * p ≡ i % 15 = omega arith in
+      rw (u, v) (g (i - 15 * p) (omega arith) ∙ rw (z, placed-here (i / 15) (omega arith))))
+      (λ v.
+      let b = ltb-false i (15 * p + 15) v in
+      let z : (i - 15) % 15 ≡ i % 15 = omega arith in
+      rw (u, v) (ap (λ l. getD l (i - 15) 0) f ∙ rows-at k t (i - 15) (omega arith) ∙ rw (z, placed-behind (i / 15) ((i - 15) / 15) (omega arith) (omega arith))))))
 
 -- TAKING OUT. In rising order the rule of the number n, if it stands, is the first that is not ahead of n.
 first-or-later : (n b : ℕ) (x : Rule) (rs : List Rule) → risingFrom b (x ∷ rs) ≡ true → stands n (x ∷ rs) ≡ true
@@ -93,9 +93,9 @@ first-or-later : (n b : ℕ) (x : Rule) (rs : List Rule) → risingFrom b (x ∷
 first-or-later n b x rs h s = by-test (eqb (x .number) n)
     (λ t. let e = eqb-true (x .number) n t in inl (e, removed-none n rs (λ r m q. omega (arith, in-rising (suc (x .number)) rs (rises b x rs h .2) r m .0))))
     (λ t.
-      let z : stands n rs ≡ true = rw t at s in
-      let r = standing n rs z in
-      inr (omega (arith, r .2, in-rising (suc (x .number)) rs (rises b x rs h .2) (r .0) (r .1) .0), z))
+    let z : stands n rs ≡ true = rw t at s in
+    let r = standing n rs z in
+    inr (omega (arith, r .2, in-rising (suc (x .number)) rs (rises b x rs h .2) (r .0) (r .1) .0), z))
 
 module _ (n : ℕ) (d : Rule) where
   pub at-stands : (b : ℕ) (rs : List Rule) → risingFrom b rs ≡ true → stands n rs ≡ true → (ahead n rs < length rs) × (getD rs (ahead n rs) d .number ≡ n)
@@ -119,9 +119,9 @@ module _ (n : ℕ) (d : Rule) where
   removed-before b (x ∷ rs) h s i l = ⊎-elim
       (λ (w : (x .number ≡ n) × (removed n rs ≡ rs)). absurd (let z = le-ltb (x .number) n (omega (arith, w .0)) in omega (arith, rw z at l)))
       (λ (w : (x .number < n) × (stands n rs ≡ true)).
-        let z = lt-ltb (x .number) n (w .0) in
-        let y = ne-eqb (x .number) n (λ e. omega (arith, w .0)) in
-        rw y (go (removed-before (suc (x .number)) rs (rises b x rs h .2) (w .1)) i (rw z at l)))
+      let z = lt-ltb (x .number) n (w .0) in
+      let y = ne-eqb (x .number) n (λ e. omega (arith, w .0)) in
+      rw y (go (removed-before (suc (x .number)) rs (rises b x rs h .2) (w .1)) i (rw z at l)))
       (first-or-later n b x rs h s)
     where
       go : ((i : ℕ) → i < ahead n rs → getD (removed n rs) i d ≡ getD rs i d) → (i : ℕ) → i < suc (ahead n rs) → getD (x ∷ removed n rs) i d ≡ getD (x ∷ rs) i d
@@ -133,9 +133,9 @@ module _ (n : ℕ) (d : Rule) where
   removed-behind b (x ∷ rs) h s i l = ⊎-elim
       (λ (w : (x .number ≡ n) × (removed n rs ≡ rs)). rw (eq-eqb (x .number) n (w .0)) (ap (λ ys. getD ys i d) (w .1)))
       (λ (w : (x .number < n) × (stands n rs ≡ true)).
-        let z = lt-ltb (x .number) n (w .0) in
-        let y = ne-eqb (x .number) n (λ e. omega (arith, w .0)) in
-        rw y (go (removed-behind (suc (x .number)) rs (rises b x rs h .2) (w .1)) i (rw z at l)))
+      let z = lt-ltb (x .number) n (w .0) in
+      let y = ne-eqb (x .number) n (λ e. omega (arith, w .0)) in
+      rw y (go (removed-behind (suc (x .number)) rs (rises b x rs h .2) (w .1)) i (rw z at l)))
       (first-or-later n b x rs h s)
     where
       go : ((i : ℕ) → ahead n rs ≤ i → getD (removed n rs) i d ≡ getD rs (suc i) d) → (i : ℕ) → suc (ahead n rs) ≤ i → getD (x ∷ removed n rs) i d ≡ getD rs i d
@@ -157,17 +157,17 @@ module _ (k : Kind) (t : Table) (n p : ℕ) (up : risingFrom 0 (t .rules) ≡ tr
   unfolding rowsText
   take-rows rows f m = upTo-same 975 (takeWord rows p) (rowsWord k (without n t)) (λ i h. by-test (ltb i (15 * p))
       (λ u.
-        let a = ltb-true i (15 * p) u in
-        rw u (ap (λ l. getD l i 0) f ∙ rows-at k t i h ∙ ap (λ x. rowWord x (i % 15)) (sym (out-before (i / 15) (omega arith)))))
+      let a = ltb-true i (15 * p) u in
+      rw u (ap (λ l. getD l i 0) f ∙ rows-at k t i h ∙ ap (λ x. rowWord x (i % 15)) (sym (out-before (i / 15) (omega arith)))))
       (λ u.
-        let a = ltb-false i (15 * p) u in
-        rw u (ap (λ l. getD l (i + 15) 0) f ∙ by-test (ltb (i + 15) 975)
-          (λ v.
-            let b = ltb-true (i + 15) 975 v in
-            let z : (i + 15) % 15 ≡ i % 15 = omega arith in
-            let y : (i + 15) / 15 ≡ suc (i / 15) = omega arith in
-            rows-at k t (i + 15) b ∙ rw (z, y, out-behind (i / 15) (omega arith)))
-          (λ v.
-            let b = ltb-false (i + 15) 975 v in
-            List·getD-eq-default (upTo 975 (rowsWord k t)) 0 {n = i + 15} (omega (arith, length-upTo 975 (rowsWord k t)))
-            ∙ sym (rw (placed-past k (without n t) (i / 15) (omega (arith, length-removed 0 n (t .rules) up s))) (row-none (i % 15)))))))
+      let a = ltb-false i (15 * p) u in
+      rw u (ap (λ l. getD l (i + 15) 0) f ∙ by-test (ltb (i + 15) 975)
+      (λ v.
+      let b = ltb-true (i + 15) 975 v in
+      let z : (i + 15) % 15 ≡ i % 15 = omega arith in
+      let y : (i + 15) / 15 ≡ suc (i / 15) = omega arith in
+      rows-at k t (i + 15) b ∙ rw (z, y, out-behind (i / 15) (omega arith)))
+      (λ v.
+      let b = ltb-false (i + 15) 975 v in
+      List·getD-eq-default (upTo 975 (rowsWord k t)) 0 {n = i + 15} (omega (arith, length-upTo 975 (rowsWord k t)))
+      ∙ sym (rw (placed-past k (without n t) (i / 15) (omega (arith, length-removed 0 n (t .rules) up s))) (row-none (i % 15)))))))
