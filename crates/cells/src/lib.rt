@@ -83,11 +83,41 @@ pub fn clear(words: &mut [u32], c: u32)
     }
 }
 
-// Takes a cell for each end of the rules of the set in a field, from the highest down, and makes a run of them with nothing below; answers the cell of the lowest end, or c where there is no end.
-fn build_run(words: &mut [u32], c: u32, rules: &[u32], set: &[u32], field: u32) -> u32
-    requires { ⌜ Spare (now words) c (length (ends (fieldAt (now rules) field) (now set))) ⌝ }
+// As build_run, for a set of many rules: their ends are copied first, since they are gone through once for each end.
+fn build_of_many(words: &mut [u32], c: u32, rules: &[u32], set: &[u32], field: u32) -> u32
+    requires { ⌜ Spare (now words) c (length (ends (fieldAt (now rules) field) (now set))) × (length (now set) ≤ 65) ⌝ }
     ensures { λ r. ⌜ Lays (now (words .entry)) (now (words .exit)) r c (ends (fieldAt (now (rules .entry)) field) (now (set .entry))) ⌝ }
 {
+    let mut lows = [0u32; 65];
+    let mut highs = [0u32; 65];
+    rows::gather(rules, set, field, &mut lows, &mut highs);
+    let n = set.len();
+    let mut last = c;
+    let mut above = rows::lower_end(rules, set, field, 4294967297);
+    while 0 < above {
+        let k = take_cell(words);
+        let e = (above - 1) as u32;
+        write_cell(words, k, e, last, 0);
+        last = k;
+        above = wide(rows::next_end(&lows[..n], &highs[..n], e));
+    }
+    last
+}
+
+fn wide(x: u32) -> u64
+    ensures { λ r. ⌜ r ≡ x ⌝ }
+{
+    x as u64
+}
+
+// Takes a cell for each end of the rules of the set in a field, from the highest down, and makes a run of them with nothing below; answers the cell of the lowest end, or c where there is no end.
+fn build_run(words: &mut [u32], c: u32, rules: &[u32], set: &[u32], field: u32) -> u32
+    requires { ⌜ Spare (now words) c (length (ends (fieldAt (now rules) field) (now set))) × (length (now set) ≤ 65) ⌝ }
+    ensures { λ r. ⌜ Lays (now (words .entry)) (now (words .exit)) r c (ends (fieldAt (now (rules .entry)) field) (now (set .entry))) ⌝ }
+{
+    if 12 < set.len() {
+        return build_of_many(words, c, rules, set, field);
+    }
     let mut lowest = c;
     let mut after = rows::lower_end(rules, set, field, 4294967297);
     while 0 < after {

@@ -293,6 +293,18 @@ module _ {ws : List ℕ} {c : ℕ} {rules ps : List ℕ} {f n k low end i b : �
       unfolding underAt
       compared-on d = record { below = below-on (o .below) r l past down (rw q at (sym h ∙ u)) (was-yes g d) }
 
+-- in the last field nothing stands below a cell, and it names the first place
+module _ {ws : List ℕ} {c : ℕ} {rules ps : List ℕ} {f k low end i down : ℕ} (o : Compared ws c rules ps f 1 k low end i end) (r : Room ws c) (l : i < end)
+    (d : down ≡ firstOf (keep (covers (fieldAt rules f) (getD ws (2 + 8 * i) 0)) ps)) {x : Bool} (g : x ≡ restIs ws i down) where
+  below-last : Same end down ≡ told ws c end (treeAt rules (f + 1) (1 - 1) (keep (covers (fieldAt rules f) (getD ws (2 + 8 * i) 0)) ps))
+  below-last = compared-none ws c rules _ (f + 1) (1 - 1) end down refl d
+
+  pub last-no : not x ≡ true → Differs ≡ told ws c k (treeAt rules f 1 ps)
+  last-no e = compared-no (λ z. absurd (omega arith)) o r l refl below-last refl g e
+
+  pub last-on : not x ≡ false → Compared ws c rules ps f 1 k low end (i + 1) end
+  last-on e = compared-on (λ z. absurd (omega arith)) o r l refl below-last refl g e
+
 -- THE FREE CHAIN
 module _ (ws : List ℕ) (c : ℕ) (r : Room ws c) (i : ℕ) where
   -- whether the cells from i on are the free chain

@@ -14,6 +14,12 @@ pub enum Told {
     Differs,
 }
 
+fn wide(x: u32) -> u64
+    ensures { λ r. ⌜ r ≡ x ⌝ }
+{
+    x as u64
+}
+
 // Whether cell k has an end and a next.
 fn head_is(words: &[u32], c: u32, k: u32, end: u32, next: u32) -> bool
     requires { ⌜ Room (now words) c × (k < c) ⌝ }
@@ -26,35 +32,71 @@ fn head_is(words: &[u32], c: u32, k: u32, end: u32, next: u32) -> bool
     words[i + 1] == next
 }
 
-// Whether cell k has a cell below it, and then zeros.
+// Whether cell k has a cell below it, and then zeros. All six words are read before the first is tested: one test of them all is made of that.
 fn rest_is(words: &[u32], c: u32, k: u32, down: u32) -> bool
     requires { ⌜ Room (now words) c × (k < c) ⌝ }
     ensures { λ r. ⌜ r ≡ restIs (now (words .entry)) k down ⌝ }
 {
     let i = 2 + 8 * (k as usize);
-    if words[i + 2] != down {
+    let below = words[i + 2];
+    let a = words[i + 3];
+    let b = words[i + 4];
+    let d = words[i + 5];
+    let e = words[i + 6];
+    let f = words[i + 7];
+    if below != down {
         return false;
     }
-    if words[i + 3] != 0 {
+    if a != 0 {
         return false;
     }
-    if words[i + 4] != 0 {
+    if b != 0 {
         return false;
     }
-    if words[i + 5] != 0 {
+    if d != 0 {
         return false;
     }
-    if words[i + 6] != 0 {
+    if e != 0 {
         return false;
     }
-    words[i + 7] == 0
+    f == 0
+}
+
+// As run_is, for a set of many rules: their ends are copied first, since they are gone through once for each end.
+fn run_of_many(words: &[u32], c: u32, rules: &[u32], set: &[u32], field: u32, k: u32) -> Told
+    requires { ⌜ Room (now words) c × (k ≤ c) × (length (now set) ≤ 65) ⌝ }
+    ensures { λ r. ⌜ r ≡ toldRun (now (words .entry)) c k (ends (fieldAt (now (rules .entry)) field) (now (set .entry))) ⌝ }
+{
+    let mut lows = [0u32; 65];
+    let mut highs = [0u32; 65];
+    rows::gather(rules, set, field, &mut lows, &mut highs);
+    let n = set.len();
+    let mut at = k;
+    let mut prior = c;
+    let mut above = rows::lower_end(rules, set, field, 4294967297);
+    while 0 < above {
+        if c <= at {
+            return Told::Differs;
+        }
+        let e = (above - 1) as u32;
+        if !head_is(words, c, at, e, prior) {
+            return Told::Differs;
+        }
+        prior = at;
+        at += 1;
+        above = wide(rows::next_end(&lows[..n], &highs[..n], e));
+    }
+    Told::Same(at, prior)
 }
 
 // Whether the cells from k on have the ends of the rules at the places of the set in a field, the highest first, each with the cell before it as its next.
 fn run_is(words: &[u32], c: u32, rules: &[u32], set: &[u32], field: u32, k: u32) -> Told
-    requires { ⌜ Room (now words) c × (k ≤ c) ⌝ }
+    requires { ⌜ Room (now words) c × (k ≤ c) × (length (now set) ≤ 65) ⌝ }
     ensures { λ r. ⌜ r ≡ toldRun (now (words .entry)) c k (ends (fieldAt (now (rules .entry)) field) (now (set .entry))) ⌝ }
 {
+    if 12 < set.len() {
+        return run_of_many(words, c, rules, set, field, k);
+    }
     let mut next = k;
     let mut head = c;
     let mut after = rows::lower_end(rules, set, field, 4294967297);
@@ -71,6 +113,32 @@ fn run_is(words: &[u32], c: u32, rules: &[u32], set: &[u32], field: u32, k: u32)
         after = rows::lower_end(rules, set, field, after);
     }
     Told::Same(next, head)
+}
+
+// Whether each cell of a run of the last field, which stands from cell k up to end, names the first rule that covers its end. The run's lowest end is at the cell low.
+fn last_is(
+    words: &[u32],
+    c: u32,
+    rules: &[u32],
+    set: &[u32],
+    field: u32,
+    k: u32,
+    end: u32,
+    low: u32,
+) -> Told
+    requires { ⌜ Room (now words) c × (k ≤ c) × (toldRun (now words) c k (ends (fieldAt (now rules) field) (now set)) ≡ Told.Same end low) ⌝ }
+    ensures { λ r. ⌜ r ≡ told (now (words .entry)) c k (treeAt (now (rules .entry)) field 1 (now (set .entry))) ⌝ }
+{
+    let mut i = k;
+    while i < end {
+        let e = words[2 + 8 * (i as usize)];
+        let named = rows::least(rules, set, field, e);
+        if !rest_is(words, c, i, named) {
+            return Told::Differs;
+        }
+        i += 1;
+    }
+    Told::Same(end, low)
 }
 
 // Whether the cells from k on are the tree of the rules at the places of the set, over left fields from field on. First the ends of the chain's run; then, cell by cell, what is below each: it begins at cell b.
@@ -92,6 +160,9 @@ fn compare_chain(
     let Told::Same(end, low) = run_is(words, c, rules, set, field, k) else {
         return Told::Differs;
     };
+    if left == 1 {
+        return last_is(words, c, rules, set, field, k, end, low);
+    }
     let mut i = k;
     let mut b = end;
     while i < end {

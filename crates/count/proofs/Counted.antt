@@ -1,6 +1,6 @@
 -- Counting the locations of a chain from its highest end down, with a stop: what the loop of `count_chain` keeps, and what its answer tells.
 -- Assumes nothing.
-use mathlib.Core.Path.{_≡_, sym, ap, _∙_}
+use mathlib.Core.Path.{_≡_, refl, sym, ap, _∙_}
 use mathlib.Core.Bool.{Bool}
 use mathlib.Core.List.{List, [], _∷_}
 use Prim.Native.Nat.{ℕ, suc, _+_, _-_, _≤_, _<_, min}
@@ -70,3 +70,10 @@ module _ {rules ps : List ℕ} {f n room count after : ℕ} (c : Counted rules p
     unfolding underAt
     counted-on l places k g u after' x =
         from-lower (omega (arith, c .is, step, ap (λ (qs : List ℕ). cells (treeAt rules (f + 1) (n - 1) qs)) k, ap (sofar rules f n ps) (x .is))) x
+
+    -- in the last field nothing is under the location
+    pub counted-last : n ≡ 1 → count < room → (after' : ℕ) → Lower rules f after ps after' → Counted rules ps f n room (count + 1) after'
+    counted-last o l after' x =
+        let z : count + 1 + 0 ≡ count + 1 = omega arith in
+        let y : n - 1 ≡ 0 = omega arith in
+        rw z at (counted-on l _ refl 0 (counted-none rules _ (f + 1) (n - 1) (room - 1 - count) y) after' x)

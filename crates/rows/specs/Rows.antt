@@ -2,7 +2,7 @@
 -- Assumes nothing: these are definitions.
 use mathlib.Core.Path.{_≡_}
 use mathlib.Core.Bool.{cond}
-use mathlib.Core.List.{List, [], _∷_}
+use mathlib.Core.List.{List, [], _∷_, map}
 use Prim.Native.Nat.{ℕ, zero, suc, _+_, _-_, _*_, _≤_, _<_}
 use lib.Dec.{ltb}
 use lib.ListN.{getD}
@@ -56,3 +56,8 @@ pub record Lower (rules : List ℕ) (f b : ℕ) (ps : List ℕ) (r : ℕ) : Type
   pub is : r ≡ lower (fieldAt rules f) b ps
   pub small : r ≤ 4294967296
   pub words : (e : ℕ) → In e (ends (fieldAt rules f) ps) → e < 4294967296
+
+-- lows and highs are the ends of the rules at the places ps in field f, in their order
+pub record Copies (rules : List ℕ) (f : ℕ) (ps lows highs : List ℕ) : Type 0 where
+  pub low : lows ≡ map (lowOf rules f) ps
+  pub high : highs ≡ map (highOf rules f) ps

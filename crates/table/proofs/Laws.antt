@@ -1,22 +1,22 @@
 -- Laws of the rows: what stands at a word of them, and the steps of the loops that go through the rules and the fields.
 -- Assumes nothing.
 use mathlib.Core.Path.{_≡_, refl, sym, ap, ap₂, _∙_}
-use mathlib.Core.Bool.{Bool, true, false, cond, _&&_}
+use mathlib.Core.Bool.{Bool, true, false, cond, not, _&&_}
 use mathlib.Core.List.{List, [], _∷_, _++_, map}
-use Prim.Native.Nat.{ℕ, zero, suc, _+_, _-_, _*_, _/_, _%_, _≤_, _<_}
+use Prim.Native.Nat.{ℕ, zero, suc, _+_, _-_, _*_, _/_, _%_, _≤_, _<_, min}
 use native.Mathlib.Omega.{arith}
 use native.Mathlib.Numerals.{add-one}
 use lib.Dec.{ltb, leb, eqb}
 use lib.ListN.{length, getD, take, drop, set, List·getD-eq-default, drop-of-length-le}
 use lib.Seq.{drop-cons, take-suc-set}
-use borrow.Author.Tests.{eq-eqb, ne-eqb, eqb-true, eqb-false, lt-ltb, le-ltb, le-leb, lt-leb}
+use borrow.Author.Tests.{ltb-true, ltb-false, eq-eqb, ne-eqb, eqb-true, eqb-false, lt-ltb, le-ltb, le-leb, lt-leb}
 use Rattle.model.specs.Lists.{same, upTo}
 use Rattle.model.specs.Rules.{rangesRight}
 use Rattle.model.specs.Table.{Kind, Rule, Table, fieldsFrom, defaultRule, risingFrom, allRight, ruleRight}
-use Rattle.model.proofs.Tests.{by-test}
+use Rattle.model.proofs.Tests.{by-test, never}
 use Rattle.model.proofs.UpTo.{length-upTo, getD-upTo, upTo-is, same-refl, same-false, same-true}
 use Rattle.rows.specs.Rows.{numberOf, actionOf, lowOf, highOf}
-use Rattle.table.specs.Rows.{kindOf, noRule, rowWord, placed, rowsWord, rowsText, ruleIn, tableIn, places, ahead}
+use Rattle.table.specs.Rows.{kindOf, noRule, rowWord, placed, rowsWord, rowsText, ruleIn, tableIn, places, ahead, Says, Right, Zeros}
 
 -- the words of a rule's row
 pub row-number : (r : Rule) → rowWord r 0 ≡ r .number
@@ -152,6 +152,62 @@ module _ (k : Kind) (n : ℕ) (rows : List ℕ) where
   pub rows-differ : (i : ℕ) → i < 975 → (getD rows i 0 ≡ rowsWord k (tableIn k n rows) i → ⊥) → false ≡ same rows (rowsText k (tableIn k n rows))
   unfolding rowsText
   rows-differ i l h = sym (same-false rows (upTo 975 (rowsWord k (tableIn k n rows))) (λ e. h (ap (λ ys. getD ys i 0) e ∙ getD-upTo 975 (rowsWord k (tableIn k n rows)) i 0 l)))
+
+-- what the inner tests answer
+pub says-yes : {P : Type 0} → P → Says true P
+says-yes p = (λ e. p, λ e. absurd (never e))
+
+pub says-no : {P : Type 0} → (P → ⊥) → Says false P
+says-no h = (λ e. absurd (never (sym e)), λ e. h)
+
+pub said-yes : {P : Type 0} (r : Bool) → Says r P → not r ≡ false → P
+said-yes true s e = s .0 refl
+said-yes false s e = absurd (never e)
+
+pub said-no : {P : Type 0} (r : Bool) → Says r P → not r ≡ true → P → ⊥
+said-no true s e = absurd (never (sym e))
+said-no false s e = s .1 refl
+
+-- one word more
+more : (f g : ℕ → ℕ) (a i : ℕ) → ((j : ℕ) → a ≤ j → j < i → f j ≡ g j) → f i ≡ g i → (j : ℕ) → a ≤ j → j < i + 1 → f j ≡ g j
+more f g a i h e j l u =
+    by-test (ltb j i) (λ t. h j l (ltb-true j i t)) (λ t. let z : j ≡ i = omega (arith, ltb-false j i t) in rw z e)
+
+pub right-more : (rows tops : List ℕ) (n a i : ℕ) → Right rows tops n a i → getD rows i 0 ≡ rowsWord (kindOf tops) (tableIn (kindOf tops) n rows) i → Right rows tops n a (i + 1)
+right-more rows tops n a i h e = more (λ j. getD rows j 0) (rowsWord (kindOf tops) (tableIn (kindOf tops) n rows)) a i h e
+
+pub zeros-more : (rows : List ℕ) (a i : ℕ) → ((j : ℕ) → a ≤ j → j < i → getD rows j 0 ≡ 0) → getD rows i 0 ≡ 0 → (j : ℕ) → a ≤ j → j < i + 1 → getD rows j 0 ≡ 0
+zeros-more rows a i h e = more (λ j. getD rows j 0) (λ j. 0) a i h e
+
+-- the rows of the rules, one row more
+module _ (rows tops : List ℕ) (n p : ℕ) (h : p < n) where
+  skip : (i : ℕ) → 15 * p + 15 ≤ i → i < 15 * (p + 1) + (2 + 2 * length tops) → length tops ≤ 6 → getD rows i 0 ≡ rowsWord (kindOf tops) (tableIn (kindOf tops) n rows) i
+  skip i a b c = sym (word-rule (kindOf tops) n rows i (omega arith) (omega arith) (omega arith))
+
+  pub rules-on : length tops ≤ 6 → Right rows tops n 15 (15 * p + 15) → Right rows tops n (15 * (p + 1) + (2 + 2 * length tops)) (15 * (p + 1) + 15) → Right rows tops n 15 (15 * (p + 1) + 15)
+  rules-on c a b i l g =
+      by-test (ltb i (15 * p + 15)) (λ t. a i l (ltb-true i (15 * p + 15) t)) (λ t.
+      by-test (ltb i (15 * (p + 1) + (2 + 2 * length tops)))
+      (λ u. skip i (ltb-false i (15 * p + 15) t) (ltb-true i (15 * (p + 1) + (2 + 2 * length tops)) u) c)
+      (λ u. b i (ltb-false i (15 * (p + 1) + (2 + 2 * length tops)) u) g))
+
+-- the whole rows from their parts: the default's row, the rows of m rules, and zeros
+module _ (rows tops : List ℕ) (n m : ℕ) (l : length rows ≡ 975) (q : m ≡ min n 64) where
+  none-behind : (i : ℕ) → 15 * m + 15 ≤ i → i < 975 → rowsWord (kindOf tops) (tableIn (kindOf tops) n rows) i ≡ 0
+  none-behind i a b = word-none (kindOf tops) n rows i (omega arith)
+
+  pub rows-wrong : (a b : ℕ) → b ≤ 975 → (Right rows tops n a b → ⊥) → false ≡ same rows (rowsText (kindOf tops) (tableIn (kindOf tops) n rows))
+  unfolding rowsText
+  rows-wrong a b u h =
+      let W = rowsWord (kindOf tops) (tableIn (kindOf tops) n rows) in
+      sym (same-false rows (upTo 975 W) (λ e. h (λ i v w. ap (λ ys. getD ys i 0) e ∙ getD-upTo 975 W i 0 (omega arith))))
+
+  pub rows-rest : Right rows tops n 0 15 → Right rows tops n 15 (15 * m + 15) → (r : Bool) → Says r (Zeros rows (15 * m + 15)) → r ≡ same rows (rowsText (kindOf tops) (tableIn (kindOf tops) n rows))
+  rows-rest d e true s = rows-same (kindOf tops) n rows l (λ i v.
+      by-test (ltb i 15) (λ t. d i (omega arith) (ltb-true i 15 t)) (λ t.
+      by-test (ltb i (15 * m + 15)) (λ u. e i (ltb-false i 15 t) (ltb-true i (15 * m + 15) u)) (λ u.
+      s .0 refl i (ltb-false i (15 * m + 15) u) v ∙ sym (none-behind i (ltb-false i (15 * m + 15) u) v))))
+  rows-rest d e false s = rows-wrong (15 * m + 15) 975 (omega arith) (λ h. s .1 refl (λ i a b. h i a b ∙ none-behind i a b))
 
 -- Going through the rules: p of them are done, x is the number of the next one.
 module _ (k : Kind) (n : ℕ) (rows : List ℕ) (p x : ℕ) (h : p < n) (e : x ≡ numberOf rows (p + 1)) where

@@ -1,8 +1,9 @@
 -- The table in words: 65 rows of 15 words, the default's first, then the rules by rising number, then rows of zeros.
 -- Assumes nothing: these are definitions.
-use mathlib.Core.Bool.{cond}
+use mathlib.Core.Path.{_≡_}
+use mathlib.Core.Bool.{Bool, true, false, cond}
 use mathlib.Core.List.{List, [], _∷_, _++_}
-use Prim.Native.Nat.{ℕ, suc, _+_, _-_, _*_, _/_, _%_}
+use Prim.Native.Nat.{ℕ, suc, _+_, _-_, _*_, _/_, _%_, _≤_, _<_}
 use lib.Dec.{eqb, ltb}
 use lib.ListN.{length, getD}
 use Rattle.model.specs.Lists.{upTo}
@@ -69,3 +70,15 @@ putWord rows p row i = cond (ltb i (15 * p)) (getD rows i 0) (cond (ltb i (15 * 
 -- word i of the rows with the row at place p taken out: the rows behind it move down by one, and a row of zeros comes last
 abbrev pub takeWord : List ℕ → ℕ → ℕ → ℕ
 takeWord rows p i = cond (ltb i (15 * p)) (getD rows i 0) (getD rows (i + 15) 0)
+
+-- what the inner tests answer: P where it is true, and no P where it is false
+abbrev pub Says : Bool → Type 0 → Type 0
+Says r P = (r ≡ true → P) × (r ≡ false → P → ⊥)
+
+-- the words from a up to b are what they have to be, where the rows hold a table of n rules
+abbrev pub Right : List ℕ → List ℕ → ℕ → ℕ → ℕ → Type 0
+Right rows tops n a b = (i : ℕ) → a ≤ i → i < b → getD rows i 0 ≡ rowsWord (kindOf tops) (tableIn (kindOf tops) n rows) i
+
+-- the words from a on are 0
+abbrev pub Zeros : List ℕ → ℕ → Type 0
+Zeros rows a = (i : ℕ) → a ≤ i → i < 975 → getD rows i 0 ≡ 0

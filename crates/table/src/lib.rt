@@ -59,13 +59,13 @@ fn rows_word(rows: &[u32], n: u32, tops: &[u32], i: usize) -> u32
     word(rows, i)
 }
 
-// Whether the rows are those of the table that they hold, where it has n rules: the default's row is right, and every word that is not a rule's is 0.
-pub fn rows_are(rows: &[u32], n: u32, tops: &[u32]) -> bool
-    requires { ⌜ (length (now rows) ≡ 975) × (length (now tops) ≤ 6) ⌝ }
-    ensures { λ r. ⌜ r ≡ same (now (rows .entry)) (rowsText (kindOf (now (tops .entry))) (tableIn (kindOf (now (tops .entry))) n (now (rows .entry)))) ⌝ }
+// Whether the words from a place up to another are what they have to be.
+fn words_are(rows: &[u32], n: u32, tops: &[u32], from: usize, to: usize) -> bool
+    requires { ⌜ (length (now rows) ≡ 975) × (length (now tops) ≤ 6) × (from ≤ to) × (to ≤ 975) ⌝ }
+    ensures { λ r. ⌜ Says r (Right (now (rows .entry)) (now (tops .entry)) n from to) ⌝ }
 {
-    let mut i: usize = 0;
-    while i < 975 {
+    let mut i = from;
+    while i < to {
         if rows[i] != rows_word(rows, n, tops, i) {
             return false;
         }
@@ -74,6 +74,61 @@ pub fn rows_are(rows: &[u32], n: u32, tops: &[u32]) -> bool
     true
 }
 
+// Whether the rows of m rules behind the default's are what they have to be: only what follows the ends can differ.
+fn rules_are(rows: &[u32], n: u32, tops: &[u32], m: u32) -> bool
+    requires { ⌜ (length (now rows) ≡ 975) × (length (now tops) ≤ 6) × (m ≤ 64) × (m ≤ n) ⌝ }
+    ensures { λ r. ⌜ Says r (Right (now (rows .entry)) (now (tops .entry)) n 15 (15 * m + 15)) ⌝ }
+{
+    let mut p: u32 = 0;
+    while p < m {
+        p += 1;
+        let row = 15 * (p as usize);
+        if !words_are(rows, n, tops, row + (2 + 2 * tops.len()), row + 15) {
+            return false;
+        }
+    }
+    true
+}
+
+// Whether all words from a place on are 0.
+fn zeros(rows: &[u32], from: usize) -> bool
+    requires { ⌜ (length (now rows) ≡ 975) × (from ≤ 975) ⌝ }
+    ensures { λ r. ⌜ Says r (Zeros (now (rows .entry)) from) ⌝ }
+{
+    let mut i = from;
+    while i < 975 {
+        if rows[i] != 0 {
+            return false;
+        }
+        i += 1;
+    }
+    true
+}
+
+// How many rows of n rules there are: 64 at most.
+fn fitting(n: u32) -> u32
+    ensures { λ r. ⌜ r ≡ min n 64 ⌝ }
+{
+    if n < 64 { n } else { 64 }
+}
+
+// Whether the rows are those of the table that they hold, where it has n rules: the default's row is right, and every word that is not a rule's is 0.
+pub fn rows_are(rows: &[u32], n: u32, tops: &[u32]) -> bool
+    requires { ⌜ (length (now rows) ≡ 975) × (length (now tops) ≤ 6) ⌝ }
+    ensures { λ r. ⌜ r ≡ same (now (rows .entry)) (rowsText (kindOf (now (tops .entry))) (tableIn (kindOf (now (tops .entry))) n (now (rows .entry)))) ⌝ }
+{
+    if !words_are(rows, n, tops, 0, 15) {
+        return false;
+    }
+    let m = fitting(n);
+    if !rules_are(rows, n, tops, m) {
+        return false;
+    }
+    zeros(rows, 15 * (m as usize) + 15)
+}
+
+ghost use Prim.Native.Nat.{min};
+ghost use Rattle.table.specs.Rows.{Says, Right, Zeros};
 ghost use Rattle.model.specs.Table.{defaultRule};
 
 // The number of the rule at a place.

@@ -108,7 +108,7 @@ pub +build-chain-spec : {M : Type 1} → statement M
     (λ c κs.
     let i = c .before .before in
     let r = i .before .before .before .before .pre .1 .0 in
-    record { a = _; more = _; q = _; state = split _ _ _ _ (r .more) (i .if1 .left) (r .state) })
+    (record { a = _; more = _; q = _; state = split _ _ _ _ (r .more) (i .if1 .left) (r .state) }, i .before .before .before .before .pre .1 .1))
     -- slice-read-past
     (λ c.
     let b = c .before .before .before in

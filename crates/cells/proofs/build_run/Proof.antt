@@ -24,10 +24,10 @@ abbrev μ-loop : tie.MeasureT-loop
 
 -- the run so far, for what the `requires` names
 so-far : (c : tie.At-loop Inv-loop μ-loop) →
-    let s = c .before .before .before .before .before in
-    let r = s .pre in
+    let s = c .before .before .before .before .before .before in
+    let r = s .pre .0 in
     Laying (c .loop .words) (s .args .rules .now) (s .args .set .now) (s .args .field) (c .loop .lowest) (s .args .c) (r .a) (r .more) (r .q) (c .loop .after)
-so-far c = let r = c .before .before .before .before .before .pre in c .loop .inv .2 (r .a) (r .more) (r .q) (r .state)
+so-far c = let r = c .before .before .before .before .before .before .pre .0 in c .loop .inv .2 (r .a) (r .more) (r .q) (r .state)
 
 pub build-run-spec : {M : Type 1} → statement M
 build-run-spec =
@@ -35,6 +35,12 @@ build-run-spec =
     (tie.spec
     Inv-loop
     μ-loop
+    -- build-of-many-requires
+    (λ c κs. search needs)
+    -- same-length
+    (λ c. c .before .before .build-of-many .kept .0)
+    -- returns
+    (λ c. c .before .before .build-of-many .ensures)
     -- lower-end-requires
     (λ c κs. search needs)
     -- loop-holds
@@ -67,7 +73,7 @@ build-run-spec =
       λ a n q s.
           rw (w .write-cell .ensures, t .take-cell .ensures .1, t .take-cell .ensures .0) (lay-built (i .before .loop .inv .2 a n q s) (i .before .loop .inv .1) (omega (arith, i .loop-test .taken)) l),
     ))
-    -- same-length
-    (λ c. so-far (c .before) .rows .state .tot ∙ sym (c .before .before .before .before .before .before .pre .state .tot))
-    -- returns
+    -- same-length-2
+    (λ c. so-far (c .before) .rows .state .tot ∙ sym (c .before .before .before .before .before .before .before .pre .0 .state .tot))
+    -- returns-2
     (λ c. λ a n q s. laid (c .before .loop .inv .2 a n q s) (omega (arith, c .loop-test .left))))

@@ -1,6 +1,7 @@
 -- `compare::compare_chain` meets its contract. The invariant: the run stands by its ends, and the cells from `k` to `i` stand with all that is below them, which ends before cell `b`. The measures are the fields that are left, and the cells of the run that are left.
 -- Assumes nothing.
 use Prim.Native.Nat.{ℕ, _<_, _-_}
+use mathlib.Core.Path.{sym, _∙_}
 use borrow.Author.Needs.{needs}
 use borrow.Fn.Kinds.{In}
 use borrow.Fn.PlainCycle.{Measures, is, falls, and}
@@ -10,6 +11,7 @@ use Rattle.compare.proofs.compare_chain.Kinds as kinds
 use Rattle.compare.proofs.+compare_chain.Lts-compare_chain as lts
 use Rattle.compare.proofs.rest_is.Reads as rest-is
 use Rattle.compare.proofs.run_is.Reads as run-is
+use Rattle.compare.proofs.last_is.Reads as last-is
 use Rattle.rows.proofs.first_place.Reads as first-place
 use Rattle.rows.proofs.narrow.Reads as narrow
 use Rattle.compare.proofs.+compare_chain.{statement}
@@ -36,6 +38,8 @@ callees t = (
   first-place.Learnt,
   run-is.Asked,
   run-is.Learnt,
+  last-is.Asked,
+  last-is.Learnt,
   narrow.Asked,
   narrow.Learnt,
   chain-below t,
@@ -55,10 +59,17 @@ pub +compare-chain-spec : {M : Type 1} → statement M
     (λ c.
     let r = c .before .before in
     compared-run _ _ _ _ _ _ _ (r .before .if1 .left) (r .before .before .before .before .before .pre .1 .0) (r .run-is .ensures) (c .enum-told .given .1))
+    -- last-is-requires
+    (λ c κs.
+    let r = c .before .before .before .before in
+    let s = r .before .before .before .before .before in
+    (s .pre .1 .0, s .pre .1 .3, sym (r .run-is .ensures) ∙ c .before .before .end .given .1))
+    -- returns-3: the last field
+    (λ c. rw (c .before .if2 .taken) (c .last-is .ensures))
     -- loop-holds
     (λ c.
-    let r = c .before .before .before in
-    compared-start _ _ _ _ _ _ _ (r .before .if1 .left) (r .before .before .before .before .before .pre .1 .3) (r .run-is .ensures) (c .before .end .given .1))
+    let r = c .before .before .before .before in
+    compared-start _ _ _ _ _ _ _ (r .before .if1 .left) (r .before .before .before .before .before .pre .1 .3) (r .run-is .ensures) (c .before .before .end .given .1))
     (λ c. search needs)  -- cast-e
     (λ c. search needs)  -- mul-e
     (λ c. search needs)  -- add-e
@@ -73,21 +84,21 @@ pub +compare-chain-spec : {M : Type 1} → statement M
     (λ c κs. search needs)  -- compare-chain-requires
     (λ c. search needs)  -- enum-known-past
     (λ c. search needs)  -- enum-told-2
-    -- returns-3: what is below the cell differs
+    -- returns-4: what is below the cell differs
     (λ c.
     let h = c .before .before in
     let w = h .before .before .before in
     let n = w .before .before .before in
-    compared-not (n .before .before .before .before .before .before .if1 .left) (n .before .loop .inv) (n .before .before .before .before .before .before .before .before .before .before .pre .1 .0) (n .loop-test .taken)
+    compared-not (n .before .before .before .before .before .before .before .if1 .left) (n .before .loop .inv) (n .before .before .before .before .before .before .before .before .before .before .before .pre .1 .0) (n .loop-test .taken)
     (w .narrow .ensures .1) (h .compare-chain .ensures) (c .enum-told2 .given .1))
     (λ c κs. search needs)  -- rest-is-requires
-    -- returns-4: the other words of the cell differ
+    -- returns-5: the other words of the cell differ
     (λ c.
     let h = c .before .before .before .before .before in
     let w = h .before .before .before in
     let n = w .before .before .before in
-    compared-no (n .before .before .before .before .before .before .if1 .left) (n .before .loop .inv) (n .before .before .before .before .before .before .before .before .before .before .pre .1 .0) (n .loop-test .taken)
-    (w .narrow .ensures .1) (h .compare-chain .ensures) (c .before .before .before .past .given .1) (c .before .rest-is .ensures) (c .if2 .taken))
+    compared-no (n .before .before .before .before .before .before .before .if1 .left) (n .before .loop .inv) (n .before .before .before .before .before .before .before .before .before .before .before .pre .1 .0) (n .loop-test .taken)
+    (w .narrow .ensures .1) (h .compare-chain .ensures) (c .before .before .before .past .given .1) (c .before .rest-is .ensures) (c .if3 .taken))
     (λ c. search needs)  -- add-i
     (λ c. search needs)  -- loop-less
     -- loop-again
@@ -95,6 +106,6 @@ pub +compare-chain-spec : {M : Type 1} → statement M
     let h = c .before .before .before .before .before in
     let w = h .before .before .before in
     let n = w .before .before .before in
-    compared-on (n .before .before .before .before .before .before .if1 .left) (n .before .loop .inv) (n .before .before .before .before .before .before .before .before .before .before .pre .1 .0) (n .loop-test .taken)
-    (w .narrow .ensures .1) (h .compare-chain .ensures) (c .before .before .before .past .given .1) (c .before .rest-is .ensures) (c .if2 .left))
-    (λ c. compared-end (c .before .before .before .before .before .before .if1 .left) (c .before .loop .inv) (c .loop-test .left))  -- returns-5
+    compared-on (n .before .before .before .before .before .before .before .if1 .left) (n .before .loop .inv) (n .before .before .before .before .before .before .before .before .before .before .before .pre .1 .0) (n .loop-test .taken)
+    (w .narrow .ensures .1) (h .compare-chain .ensures) (c .before .before .before .past .given .1) (c .before .rest-is .ensures) (c .if3 .left))
+    (λ c. compared-end (c .before .before .before .before .before .before .before .if1 .left) (c .before .loop .inv) (c .loop-test .left))  -- returns-6

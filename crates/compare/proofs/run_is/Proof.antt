@@ -20,23 +20,25 @@ run-is-spec =
     Inv-loop
     μ-loop
     (λ c κs. search needs)
-    (λ c. going-start _ _ _ _ _ _ _ (c .before .before .before .before .pre .1) (c .lower-end .ensures))
+    (λ c. c .run-of-many .ensures)
+    (λ c κs. search needs)
+    (λ c. going-start _ _ _ _ _ _ _ (c .before .before .before .before .before .pre .1) (c .lower-end .ensures))
     -- returns: no cell is left
-    (λ c. going-full (c .before .before .loop .inv) (c .before .loop-test .taken) (c .if1 .taken))
+    (λ c. going-full (c .before .before .loop .inv) (c .before .loop-test .taken) (c .if2 .taken))
     (λ c. search needs)
     (λ c. search needs)
     (λ c κs. search needs)
     -- returns-2: the next cell is wrong
     (λ c.
     let n = c .before .before .before in
-    going-no (n .before .loop .inv) (n .loop-test .taken) (c .before .head-is .ensures) (c .if2 .taken))
+    going-no (n .before .loop .inv) (n .loop-test .taken) (c .before .head-is .ensures) (c .if3 .taken))
     (λ c. search needs)
     (λ c κs. search needs)
     (λ c. lower-less (c .lower-end2 .ensures) (c .before .before .before .before .loop-test .taken))
     -- loop-again
     (λ c.
     let n = c .before .before .before .before in
-    going-on (n .before .loop .inv) (n .loop-test .taken) (c .before .before .before .if1 .left)
-    (c .before .before .head-is .ensures) (c .before .if2 .left)
+    going-on (n .before .loop .inv) (n .loop-test .taken) (c .before .before .before .if2 .left)
+    (c .before .before .head-is .ensures) (c .before .if3 .left)
     _ (c .lower-end2 .ensures .is) (c .lower-end2 .ensures .small))
     (λ c. going-end (c .before .loop .inv) (c .loop-test .left)))
