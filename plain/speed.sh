@@ -9,26 +9,8 @@
 # compiler (cc), which compiles plain C with -O3; LIBS what else the archive
 # wants to be linked with.  Where valgrind is there the instructions of a
 # lookup are counted too.
-set -eu
-
-if [ $# -ne 1 ]; then
-	echo "usage: sh speed.sh ARCHIVE" >&2
-	exit 2
-fi
-here=$(cd "$(dirname "$0")" && pwd)
-cc=${CC:-cc}
-flags="-std=c11 -O3 -falign-functions=64 -Wall -Wextra -I$here/../include"
-dir=$(mktemp -d)
-trap 'rm -rf "$dir"' EXIT
-
-$cc $flags -c "$here/plain.c" -o "$dir/plain.o"
-$cc $flags -c "$here/speed.c" -o "$dir/speed.o"
-if [ "$1" = plain ]; then
-	archive=$dir/second.o
-	$cc $flags -DPLAIN_AS_REAMSTORK -c "$here/plain.c" -o "$archive"
-else
-	archive=$1
-fi
+program=speed flags=-falign-functions=64
+. "$(dirname "$0")/build.sh"
 
 machine() {
 	readelf -h "$1" 2>/dev/null | sed -n 's/.*Machine: *//p' | sort -u

@@ -18,9 +18,6 @@ took ws = set ws 0 (word ws (head ws) 1)
 abbrev pub gave : List ℕ → ℕ → List ℕ
 gave ws k = set (wrote ws k 0 (head ws) 0) 0 k
 
-pub length-wrote : (ws : List ℕ) (k e n d : ℕ) → length (wrote ws k e n d) ≡ length ws
-length-wrote ws k e n d = simp length-set
-
 -- no run stands yet
 pub rows-none : (ws : List ℕ) (c a n : ℕ) (q : List ℕ) → State ws c a a q (frees a n) → Rows ws c c a n q nil
 unfolding len low row

@@ -12,12 +12,9 @@ use Rattle.model.proofs.Tests.{by-test}
 use Rattle.rows.specs.Rows.{fieldAt, treeAt, underAt, lower, Lower}
 use Rattle.rows.proofs.Lower.{done, done-start, done-step, done-all, lower-in, tree-none, tree-step}
 
--- what a count with a stop tells: at most room, it is the number; above room, so is the number
+-- what a count with a stop tells: at most room, it is the number
 pub count-is : {n r room : ℕ} → r ≡ min n (room + 1) → r ≤ room → n ≡ r
 count-is e h = omega arith
-
-pub count-over : {n r room : ℕ} → r ≡ min n (room + 1) → room < r → room < n
-count-over e h = omega arith
 
 -- a chain of some of the ends has no more locations
 keep-fewer : (u : ℕ → Tree ℕ) (p : ℕ → Bool) (es : List ℕ) → cells (chain u (keep p es)) ≤ cells (chain u es)

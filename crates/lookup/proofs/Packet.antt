@@ -16,7 +16,8 @@ use Rattle.header.specs.Facts.{Refused, unreadable-when, within-tops}
 use Rattle.lookup.specs.declared.Found.{Found}
 use Rattle.lookup.specs.declared.Walked.{Walked}
 use Rattle.lookup.specs.declared.Walked.the-variants.{At, Lost}
-use Rattle.lookup.specs.Walk.{walkOf, refused, cellsIn, partIn, enough, ruleIn, lookupOf, lookupPacket}
+use Rattle.stored.specs.Store.{cellsIn}
+use Rattle.lookup.specs.Walk.{walkOf, refused, partIn, enough, ruleIn, lookupOf, lookupPacket}
 use Rattle.lookup.proofs.Steps.{no-values, by-values, values-right}
 
 -- a lookup of values within their tops answers 0 or 9

@@ -17,7 +17,8 @@ use Rattle.header.specs.Header.{headerOf}
 use Rattle.cells.specs.Text.{word}
 use Rattle.lookup.specs.declared.Walked.{Walked}
 use Rattle.lookup.specs.declared.Walked.the-variants.{At, Lost}
-use Rattle.lookup.specs.Walk.{seekOf, onFrom, throughOf, walkOf, refused, cellsIn, partIn, ruleIn, lookupOf, lookupValues, lookupHeader, lookupPacket}
+use Rattle.stored.specs.Store.{cellsIn}
+use Rattle.lookup.specs.Walk.{seekOf, onFrom, throughOf, walkOf, refused, partIn, ruleIn, lookupOf, lookupValues, lookupHeader, lookupPacket}
 
 module _ (w : List ℕ) (c v : ℕ) where
   -- one cell of a field, where m more may be read

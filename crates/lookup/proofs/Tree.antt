@@ -16,7 +16,8 @@ use Rattle.cells.specs.Text.{at, word, cell, frees, Run, nil, snoc, len, low, r
 use Rattle.cells.specs.Planted.{Deep}
 use Rattle.cells.proofs.Text.{marks-len, cells-sum}
 use Rattle.lookup.specs.declared.Walked.the-variants.{At}
-use Rattle.lookup.specs.Walk.{seekOf, onFrom, throughOf, walkOf, cellsIn, partIn, ruleIn, lookupOf}
+use Rattle.stored.specs.Store.{cellsIn}
+use Rattle.lookup.specs.Walk.{seekOf, onFrom, throughOf, walkOf, partIn, ruleIn, lookupOf}
 use Rattle.lookup.proofs.Steps.{seek-here, seek-next, enough-words}
 
 -- what stands behind a run, and behind all that is below a chain

@@ -4,13 +4,14 @@ use mathlib.Core.Bool.{Bool, cond, _&&_}
 use mathlib.Core.List.{List, [], _∷_}
 use Prim.Native.Nat.{ℕ, zero, suc, _+_, _*_}
 use lib.Dec.{ltb, leb}
-use lib.ListN.{length, getD, take, drop}
+use lib.ListN.{length, getD}
 use Rattle.model.specs.Table.{packetRight}
 use Rattle.model.specs.Ipv4.{ipv4}
 use Rattle.header.specs.declared.Header.{Header}
 use Rattle.header.specs.declared.Header.the-variants.{Values, Unreadable}
 use Rattle.header.specs.Header.{headerOf}
 use Rattle.cells.specs.Text.{word}
+use Rattle.stored.specs.Store.{cellsIn, partOf, roomFor}
 use Rattle.lookup.specs.declared.Found.{Found}
 use Rattle.lookup.specs.declared.Walked.{Walked}
 use Rattle.lookup.specs.declared.Walked.the-variants.{At, Lost}
@@ -41,16 +42,13 @@ walkOf part c vs = throughOf part c vs (getD part 1 0) 0
 abbrev pub refused : ℕ → Found
 refused a = record { answer = a; rule = 0; action = 0; reads = 0 }
 
--- the cells that the words name, and the part of them with the cells
-abbrev pub cellsIn : List ℕ → ℕ
-cellsIn words = getD words 0 0
-
+-- the part of the words with the cells, as many as the words name
 abbrev pub partIn : List ℕ → List ℕ
-partIn words = take (2 + 8 * cellsIn words) (drop 1022 words)
+partIn words = partOf (cellsIn words) words
 
--- the words name a c within its limits, "5 to 65,536", and are enough for it
+-- the words name a c within its limits, and are enough for it
 abbrev pub enough : List ℕ → Bool
-enough words = leb 5 (cellsIn words) && (leb (cellsIn words) 65536 && leb (1024 + 8 * cellsIn words) (length words))
+enough words = roomFor ipv4 (cellsIn words) words
 
 -- the rule at the place that the walk came to; 9 where that link leads outside the table, which has the places 0 to 64, and of those the ones up to the number of rules
 abbrev pub ruleIn : List ℕ → Walked → Found

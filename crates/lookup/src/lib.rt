@@ -2,7 +2,8 @@
 ghost use mathlib.Core.Path.{_≡_};
 ghost use Prim.Native.Nat.{_+_, _*_, _≤_};
 ghost use lib.ListN.{length};
-ghost use Rattle.lookup.specs.Walk.{seekOf, walkOf, refused, cellsIn, partIn, ruleIn, lookupOf, lookupValues, lookupPacket};
+ghost use Rattle.stored.specs.Store.{cellsIn};
+ghost use Rattle.lookup.specs.Walk.{seekOf, walkOf, refused, partIn, ruleIn, lookupOf, lookupValues, lookupPacket};
 use header::Header;
 
 // What a lookup answers: 0, the number and the action of the rule that decides, and the cells that were read; or a refusal's number and zeros.

@@ -1,4 +1,4 @@
--- The IPv4 gateway's five fields and its limit. This is the only file that knows how many fields there are.
+-- The kind of store that the library is: the IPv4 gateway's five fields with their tops, and its limit of rules.
 -- Assumes nothing: these are definitions.
 use mathlib.Core.List.{[], _∷_}
 use Rattle.model.specs.Table.{Kind}

@@ -112,9 +112,6 @@ module _ (ws : List ℕ) (s : Sound ws) where
       ∙ sound-cells
 
 -- A FRESH TABLE
-pub fresh-within : (a : ℕ) → within ipv4 (record { action = a; rules = [] }) ≡ true
-fresh-within a = refl
-
 pub fresh-fits : (a c : ℕ) (rows : List ℕ) → rows ≡ rowsText ipv4 (record { action = a; rules = [] }) → 5 ≤ c → Fits rows 0 c
 fresh-fits a c rows e h = fitting 0 c rows (record { action = a; rules = [] }) refl e refl (omega arith) (omega (arith, default-cells ipv4 a))
 

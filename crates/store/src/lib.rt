@@ -1,16 +1,19 @@
 // A store: start, check, insert, delete, read, cells in use. Every promise is one equation for the answer and for every lent word, whatever the words hold.
 ghost use mathlib.Core.Path.{_≡_};
-ghost use mathlib.Core.List.{List, [], _++_};
-ghost use Prim.Native.Nat.{ℕ, _+_, _*_, _≤_};
-ghost use lib.ListN.{length, getD, take, drop, replicate};
+ghost use mathlib.Core.Bool.{true};
+ghost use mathlib.Core.List.{_++_};
+ghost use Prim.Native.Nat.{_+_, _*_, _≤_};
+ghost use lib.Dec.{leb};
+ghost use lib.ListN.{length, getD, replicate};
 ghost use Rattle.model.specs.Lists.{same};
-ghost use Rattle.model.specs.Rules.{stop, cells as cellsOfTree};
-ghost use Rattle.model.specs.Table.{Table, withRule, without, cellsOf};
+ghost use Rattle.model.specs.Rules.{cells as cellsOfTree};
+ghost use Rattle.model.specs.Table.{risingFrom, stands, withRule, without};
 ghost use Rattle.model.specs.Ipv4.{ipv4};
 ghost use Rattle.rows.specs.Rows.{treeAt};
 ghost use Rattle.cells.specs.Text.{part};
-ghost use Rattle.table.specs.Rows.{given, rowsText, places as placesOf};
-ghost use Rattle.stored.specs.Store.{size, headText, text, cellsIn, rowsOf, partOf, tableOf, roomFor, passes, startAnswer, startWords, insertSays, insertWords, deleteSays, deleteWords, readSays, readGives, cellsSays, cellsGives};
+ghost use Rattle.table.specs.Rows.{given, rowsText, tableIn, ahead, ruleIn, places as placesOf};
+ghost use Rattle.stored.specs.Store.{headText, cellsIn, tableOf, roomFor, passes, startAnswer, startWords, insertSays, insertWords, deleteSays, deleteWords, zeroRule, readSays, readGives, cellsSays, cellsGives};
+ghost use Rattle.stored.specs.Inner.{tableStands, Bare, Fits, laid};
 use table::Rule;
 
 // The top of each field.
@@ -317,7 +320,7 @@ pub struct Count {
     pub cells: u32,
 }
 
-// Counts the cells in use.
+// Counts the cells in use. In a store that passes they are those before the first free cell, which word 1,022 names.
 pub fn cells(words: &[u32]) -> Count
     ensures { λ r. ⌜ (r .answer ≡ cellsSays ipv4 (now (words .entry))) × (r .cells ≡ cellsGives ipv4 (now (words .entry))) ⌝ }
 {
@@ -332,10 +335,3 @@ pub fn cells(words: &[u32]) -> Count
         cells: words[1022],
     }
 }
-
-ghost use mathlib.Core.Bool.{true};
-ghost use lib.Dec.{leb};
-ghost use Rattle.model.specs.Table.{risingFrom, stands};
-ghost use Rattle.table.specs.Rows.{tableIn, ahead, ruleIn};
-ghost use Rattle.stored.specs.Store.{zeroRule};
-ghost use Rattle.stored.specs.Inner.{tableStands, Bare, Fits, laid};
