@@ -99,15 +99,9 @@ fn build_of_many(words: &mut [u32], c: u32, rules: &[u32], set: &[u32], field: u
         let e = (above - 1) as u32;
         write_cell(words, k, e, last, 0);
         last = k;
-        above = wide(rows::next_end(&lows[..n], &highs[..n], e));
+        above = rows::wide(rows::next_end(&lows[..n], &highs[..n], e));
     }
     last
-}
-
-fn wide(x: u32) -> u64
-    ensures { λ r. ⌜ r ≡ x ⌝ }
-{
-    x as u64
 }
 
 // Takes a cell for each end of the rules of the set in a field, from the highest down, and makes a run of them with nothing below; answers the cell of the lowest end, or c where there is no end.

@@ -14,12 +14,6 @@ pub enum Told {
     Differs,
 }
 
-fn wide(x: u32) -> u64
-    ensures { λ r. ⌜ r ≡ x ⌝ }
-{
-    x as u64
-}
-
 // Whether cell k has an end and a next.
 fn head_is(words: &[u32], c: u32, k: u32, end: u32, next: u32) -> bool
     requires { ⌜ Room (now words) c × (k < c) ⌝ }
@@ -84,7 +78,7 @@ fn run_of_many(words: &[u32], c: u32, rules: &[u32], set: &[u32], field: u32, k:
         }
         prior = at;
         at += 1;
-        above = wide(rows::next_end(&lows[..n], &highs[..n], e));
+        above = rows::wide(rows::next_end(&lows[..n], &highs[..n], e));
     }
     Told::Same(at, prior)
 }

@@ -1,13 +1,15 @@
 // The table of a store in its rows: 65 rows of 15 words, the default's first, then the rules by rising number, then rows of zeros. Read, held to the limits, searched, and edited by making the rows anew beside the old ones.
 ghost use mathlib.Core.Path.{_≡_};
-ghost use mathlib.Core.Bool.{true};
-ghost use Prim.Native.Nat.{suc, _+_, _*_, _≤_, _<_};
+ghost use mathlib.Core.Bool.{true, cond};
+ghost use mathlib.Core.List.{[]};
+ghost use Prim.Native.Nat.{suc, _+_, _-_, _*_, _≤_, _<_, min};
+ghost use lib.Dec.{ltb};
 ghost use lib.ListN.{length, getD, take};
 ghost use Rattle.model.specs.Lists.{same, upTo};
 ghost use Rattle.model.specs.Rules.{rangesRight};
-ghost use Rattle.model.specs.Table.{fieldsFrom, risingFrom, allRight, stands};
-ghost use Rattle.rows.specs.Rows.{numberOf, lowOf, highOf};
-ghost use Rattle.table.specs.Rows.{kindOf, given, rowWord, rowsWord, rowsText, ruleIn, tableIn, places as placesOf, ahead, putWord, takeWord};
+ghost use Rattle.model.specs.Table.{defaultRule, fieldsFrom, risingFrom, allRight};
+ghost use Rattle.rows.specs.Rows.{numberOf, actionOf};
+ghost use Rattle.table.specs.Rows.{kindOf, given, rowWord, rowsWord, rowsText, ruleIn, tableIn, places as placesOf, ahead, putWord, takeWord, Says, Right, Zeros};
 
 // A rule: five low ends and five high ends besides its number and its action.
 pub struct Rule {
@@ -127,10 +129,6 @@ pub fn rows_are(rows: &[u32], n: u32, tops: &[u32]) -> bool
     zeros(rows, 15 * (m as usize) + 15)
 }
 
-ghost use Prim.Native.Nat.{min};
-ghost use Rattle.table.specs.Rows.{Says, Right, Zeros};
-ghost use Rattle.model.specs.Table.{defaultRule};
-
 // The number of the rule at a place.
 pub fn number(rows: &[u32], place: u32) -> u32
     ensures { λ r. ⌜ r ≡ numberOf (now (rows .entry)) place ⌝ }
@@ -144,8 +142,6 @@ pub fn action(rows: &[u32], place: u32) -> u32
 {
     word(rows, 15 * (place as usize) + 1)
 }
-
-ghost use Rattle.rows.specs.Rows.{actionOf};
 
 // Whether the numbers of the n rules rise, from 0 to 65,534.
 pub fn rising(rows: &[u32], n: u32, tops: &[u32]) -> bool
@@ -242,10 +238,6 @@ fn put_word(rows: &[u32], p: usize, row: &[u32], i: usize) -> u32
     }
     word(rows, i - 15)
 }
-
-ghost use mathlib.Core.Bool.{cond};
-ghost use lib.Dec.{ltb};
-ghost use Prim.Native.Nat.{_-_};
 
 // Writes the rows without the row at a place.
 pub fn take_out(rows: &[u32], place: u32, out: &mut [u32])
@@ -344,5 +336,3 @@ pub fn fresh(action: u32, tops: &[u32], out: &mut [u32])
         i += 1;
     }
 }
-
-ghost use mathlib.Core.List.{[]};
