@@ -40,27 +40,28 @@ Nowhere P t = (j : ℕ) → j < length (t .key) → P j → ⊥
 abbrev pub NoPlace : ℕ → Tallies → Type 0
 NoPlace n t = Nowhere (HoldsAt n t) t × Nowhere (UnusedAt t) t
 
+-- "There are 65 places": the record's three arrays
+pub record Places (t : Tallies) : Type 0 where
+  pub keys : length (t .key) ≡ 65
+  pub packets : length (t .packets) ≡ 65
+  pub bytes : length (t .bytes) ≡ 65
+
 -- a packet of so many bytes was counted for the number n: t was lent, and u is left
-pub record Counted (n bytes : ℕ) (t u : Tallies) : Type 0 where
+pub record Counted (n total : ℕ) (t u : Tallies) : Type 0 where
   pub place : ℕ
-  pub packets-from : ℕ
-  pub bytes-from : ℕ
+  pub packets-before : ℕ
+  pub bytes-before : ℕ
   -- "a number held twice counts in the first, a number not yet held takes the first unused one, from zero"
   pub from :
-      (FirstAt (HoldsAt n t) t place × (packets-from ≡ packetsAt t place) × (bytes-from ≡ bytesAt t place))
-      ⊎ (Nowhere (HoldsAt n t) t × FirstAt (UnusedAt t) t place × (packets-from ≡ 0) × (bytes-from ≡ 0))
+      (FirstAt (HoldsAt n t) t place × (packets-before ≡ packetsAt t place) × (bytes-before ≡ bytesAt t place))
+      ⊎ (Nowhere (HoldsAt n t) t × FirstAt (UnusedAt t) t place × (packets-before ≡ 0) × (bytes-before ≡ 0))
   -- "adds one packet and the packet's total length in bytes. [..] a tally starts again at zero after 4,294,967,295"
   pub key : keyAt u place ≡ n
-  pub packets : place < length (t .packets) → packetsAt u place ≡ (packets-from + 1) % 4294967296
-  pub bytes : place < length (t .bytes) → bytesAt u place ≡ (bytes-from + bytes) % 4294967296
+  pub packets : packetsAt u place ≡ (packets-before + 1) % 4294967296
+  pub bytes : bytesAt u place ≡ (bytes-before + total) % 4294967296
   -- "Every other tally stays"
-  pub other-key : (j : ℕ) → j ≢ place → keyAt u j ≡ keyAt t j
-  pub other-packets : (j : ℕ) → j ≢ place → packetsAt u j ≡ packetsAt t j
-  pub other-bytes : (j : ℕ) → j ≢ place → bytesAt u j ≡ bytesAt t j
-  -- the arrays keep their lengths
-  pub long-key : length (u .key) ≡ length (t .key)
-  pub long-packets : length (u .packets) ≡ length (t .packets)
-  pub long-bytes : length (u .bytes) ≡ length (t .bytes)
+  pub others : (j : ℕ) → j ≢ place → (keyAt u j ≡ keyAt t j) × (packetsAt u j ≡ packetsAt t j) × (bytesAt u j ≡ bytesAt t j)
+  pub places : Places u
 
 -- BETWEEN TWO READINGS: lookups of packets, each in the words of some store; and "the crew's tool drops a tally", which makes a place unused by writing a key above 65,535
 pub data Event : Type 0 where
@@ -99,12 +100,12 @@ Kept i (drop place key unused ∷ es) = (place ≢ i) × Kept i es
 
 pub record Tallied : Type 0 where
   -- a lookup that is not refused answers as the lookup by a packet does, and counts it for the rule that it names
-  pub counts : (ws bytes : List ℕ) (t : Tallies) → tallyAnswer ws bytes t .answer ≡ 0
+  pub counts : (ws bytes : List ℕ) (t : Tallies) → Places t → tallyAnswer ws bytes t .answer ≡ 0
       → (tallyAnswer ws bytes t ≡ lookupPacket ws bytes) × Counted (lookupPacket ws bytes .rule) (totalLength bytes) t (talliesLeft ws bytes t)
-  -- "A reader's difference of two readings is right if fewer than 2^32 were added between them and the tally wasn't dropped": a reader that found the number's tally at place i reads there again after the events. (The counts are words: below 2^32.)
-  pub packets-right : (t : Tallies) (n i : ℕ) (es : List Event) → FirstAt (HoldsAt n t) t i → i < length (t .packets) → packetsAt t i < 2 ^ 32 → Kept i es
+  -- "A reader's difference of two readings is right if fewer than 2^32 were added between them and the tally wasn't dropped": a reader that found the number's tally at place i reads there again after the events. (A count is a word, below 2^32.)
+  pub packets-right : (t : Tallies) → Places t → (n i : ℕ) → FirstAt (HoldsAt n t) t i → packetsAt t i < 2 ^ 32 → (es : List Event) → Kept i es
       → packetsAdded n t es < 2 ^ 32 → difference (packetsAt t i) (packetsAt (after t es) i) ≡ packetsAdded n t es
-  pub bytes-right : (t : Tallies) (n i : ℕ) (es : List Event) → FirstAt (HoldsAt n t) t i → i < length (t .bytes) → bytesAt t i < 2 ^ 32 → Kept i es
+  pub bytes-right : (t : Tallies) → Places t → (n i : ℕ) → FirstAt (HoldsAt n t) t i → bytesAt t i < 2 ^ 32 → (es : List Event) → Kept i es
       → bytesAdded n t es < 2 ^ 32 → difference (bytesAt t i) (bytesAt (after t es) i) ≡ bytesAdded n t es
-  -- and the place still holds the number then, as the first that does
-  pub place-kept : (t : Tallies) (n i : ℕ) (es : List Event) → FirstAt (HoldsAt n t) t i → Kept i es → FirstAt (HoldsAt n (after t es)) (after t es) i
+  -- and that place is still the number's
+  pub place-kept : (t : Tallies) (n i : ℕ) → FirstAt (HoldsAt n t) t i → (es : List Event) → Kept i es → FirstAt (HoldsAt n (after t es)) (after t es) i
