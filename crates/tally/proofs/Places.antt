@@ -30,6 +30,26 @@ module _ (test : ℕ → Bool) where
   first-none [] n = refl
   first-none (key ∷ keys) n = rw (n 0 (omega arith)) (ap suc (first-none keys (λ j l. n (suc j) (omega arith))))
 
+  -- and what the first place tells
+  pub before-first : (keys : List ℕ) → None test keys (firstOf test keys)
+  unfolding firstOf
+  before-first [] j l = absurd (omega arith)
+  before-first (key ∷ keys) j l = by-test (before-first keys) (test key) refl j l
+    where
+      by-test : None test keys (firstOf test keys) → (b : Bool) → test key ≡ b → (j : ℕ) → j < cond b 0 (suc (firstOf test keys)) → test (getD (key ∷ keys) j 0) ≡ false
+      by-test rest true q j l = absurd (omega arith)
+      by-test rest false q zero l = q
+      by-test rest false q (suc j) l = rest j (omega arith)
+
+  pub first-passes : (keys : List ℕ) → firstOf test keys < length keys → test (getD keys (firstOf test keys) 0) ≡ true
+  unfolding firstOf
+  first-passes [] l = absurd (omega arith)
+  first-passes (key ∷ keys) l = by-test (first-passes keys) (test key) refl l
+    where
+      by-test : (firstOf test keys < length keys → test (getD keys (firstOf test keys) 0) ≡ true) → (b : Bool) → test key ≡ b → cond b 0 (suc (firstOf test keys)) < suc (length keys) → test (getD (key ∷ keys) (cond b 0 (suc (firstOf test keys))) 0) ≡ true
+      by-test rest true q l = q
+      by-test rest false q l = rest (omega arith)
+
   -- one key more that does not pass
   pub none-more : (keys : List ℕ) (n : ℕ) → None test keys n → test (getD keys n 0) ≡ false → None test keys (n + 1)
   none-more keys n h e j l = pick (ltb j n) refl
@@ -82,31 +102,39 @@ module _ (keys : List ℕ) where
           (λ g. absurd (omega arith))
           f
 
-    -- a place that is found is one of the places
-    pub held-within : (i : ℕ) → placeOf number keys ≡ Held i → i < length keys
-    unfolding placeOf
-    held-within i e = found (ltb (firstOf (keyed number) keys) (length keys)) refl (ltb (firstOf unused keys) (length keys)) e
-      where
-        found : (b : Bool) → ltb (firstOf (keyed number) keys) (length keys) ≡ b → (d : Bool)
-            → cond b (Held (firstOf (keyed number) keys)) (cond d (New (firstOf unused keys)) Full) ≡ Held i → i < length keys
-        found true q d e = let z : firstOf (keyed number) keys ≡ i = cc in omega (arith, ltb-true (firstOf (keyed number) keys) (length keys) q)
-        found false q true e = let z : _≡_ {A = ℕ} 0 1 = cc in absurd (omega arith)
-        found false q false e = let z : _≡_ {A = ℕ} 0 1 = cc in absurd (omega arith)
+-- WHAT A PLACE TELLS of the keys
+pub data Told (number : ℕ) (keys : List ℕ) : Place → Type 0 where
+  held : (i : ℕ) → i < length keys → None (keyed number) keys i → keyed number (getD keys i 0) ≡ true → Told number keys (Held i)
+  new : (i : ℕ) → i < length keys → None (keyed number) keys (length keys) → None unused keys i → unused (getD keys i 0) ≡ true → Told number keys (New i)
+  full : None (keyed number) keys (length keys) → None unused keys (length keys) → Told number keys Full
 
-    pub new-within : (i : ℕ) → placeOf number keys ≡ New i → i < length keys
-    unfolding placeOf
-    new-within i e = found (ltb (firstOf (keyed number) keys) (length keys)) (ltb (firstOf unused keys) (length keys)) refl e
-      where
-        found : (b d : Bool) → ltb (firstOf unused keys) (length keys) ≡ d
-            → cond b (Held (firstOf (keyed number) keys)) (cond d (New (firstOf unused keys)) Full) ≡ New i → i < length keys
-        found true d q e = let z : _≡_ {A = ℕ} 0 1 = cc in absurd (omega arith)
-        found false true q e = let z : firstOf unused keys ≡ i = cc in omega (arith, ltb-true (firstOf unused keys) (length keys) q)
-        found false false q e = let z : _≡_ {A = ℕ} 0 1 = cc in absurd (omega arith)
+pub place-told : (number : ℕ) (keys : List ℕ) → Told number keys (placeOf number keys)
+unfolding placeOf
+place-told number keys = pick (ltb (firstOf (keyed number) keys) (length keys)) refl (ltb (firstOf unused keys) (length keys)) refl
+  where
+    none-of : (test : ℕ → Bool) → ltb (firstOf test keys) (length keys) ≡ false → None test keys (length keys)
+    none-of test q j l = before-first test keys j (omega (arith, ltb-false (firstOf test keys) (length keys) q))
 
--- the same of what the function that looks for a place answers, where there are m places
+    pick : (b : Bool) → ltb (firstOf (keyed number) keys) (length keys) ≡ b → (d : Bool) → ltb (firstOf unused keys) (length keys) ≡ d
+        → Told number keys (cond b (Held (firstOf (keyed number) keys)) (cond d (New (firstOf unused keys)) Full))
+    pick true q d r = let l = ltb-true (firstOf (keyed number) keys) (length keys) q in held _ l (before-first (keyed number) keys) (first-passes (keyed number) keys l)
+    pick false q true r = let l = ltb-true (firstOf unused keys) (length keys) r in new _ l (none-of (keyed number) q) (before-first unused keys) (first-passes unused keys l)
+    pick false q false r = full (none-of (keyed number) q) (none-of unused r)
+
+-- a place that is found is one of m places
 module _ (keys : List ℕ) (number i m : ℕ) {p : Place} (long : length keys ≡ m) (e : p ≡ placeOf number keys) where
   pub held-below : p ≡ Held i → i < m
-  held-below q = omega (arith, held-within keys number i (sym e ∙ q))
+  held-below q = told (placeOf number keys) (sym e ∙ q) (place-told number keys)
+    where
+      told : (r : Place) → r ≡ Held i → Told number keys r → i < m
+      told r q (held j l n h) = let z : j ≡ i = cc in omega arith
+      told r q (new j l n f h) = let z : _≡_ {A = ℕ} 0 1 = cc in absurd (omega arith)
+      told r q (full n f) = let z : _≡_ {A = ℕ} 0 1 = cc in absurd (omega arith)
 
   pub new-below : p ≡ New i → i < m
-  new-below q = omega (arith, new-within keys number i (sym e ∙ q))
+  new-below q = told (placeOf number keys) (sym e ∙ q) (place-told number keys)
+    where
+      told : (r : Place) → r ≡ New i → Told number keys r → i < m
+      told r q (held j l n h) = let z : _≡_ {A = ℕ} 0 1 = cc in absurd (omega arith)
+      told r q (new j l n f h) = let z : j ≡ i = cc in omega arith
+      told r q (full n f) = let z : _≡_ {A = ℕ} 0 1 = cc in absurd (omega arith)
