@@ -4,7 +4,7 @@ ghost use Rattle.model.specs.Ipv4.{ipv4};
 ghost use Rattle.prefix.specs.Prefix.{rangeOf};
 ghost use Rattle.stored.specs.Store.{startAnswer, startWords, insertSays, insertWords, deleteSays, deleteWords, readSays, readGives, cellsSays, cellsGives};
 ghost use Rattle.lookup.specs.Walk.{lookupValues, lookupPacket};
-ghost use Rattle.tally.specs.Tally.{tallyAnswer, talliesLeft, cleared};
+ghost use Rattle.tally.specs.Tally.{tallyAnswer, talliesLeft, cleared, difference};
 ghost use Rattle.reamstork.specs.Face.{ruleOf, ruleRead, checkSays};
 use lookup::Found;
 use prefix::Range;
@@ -162,4 +162,12 @@ pub extern "C" fn reamstork_lookup_packet_tally(
         &mut tallies.packets,
         &mut tallies.bytes,
     )
+}
+
+// What was added to a count between two readings of it.
+#[no_mangle]
+pub extern "C" fn reamstork_tally_difference(earlier: u32, later: u32) -> u32
+    ensures { λ r. ⌜ r ≡ difference earlier later ⌝ }
+{
+    tally::difference(earlier, later)
 }

@@ -43,10 +43,13 @@ module _ (words packet : List ℕ) (f : Found) (is : f ≡ lookupPacket words pa
     place = placeOf (f .rule) (t .key)
 
     module _ (e : f .answer ≡ 0) (n : ℕ) (total : n ≡ totalLength packet) (u : Tallies) (q : u ≡ counted place (f .rule) n t) where
+      left : u ≡ counted place (f .rule) (totalLength packet) t
+      left = q ∙ ap (λ (m : ℕ). counted place (f .rule) m t) total
+
       pub counts : hasPlace place ≡ true → Does f u
       unfolding tallyAnswer talliesLeft
-      counts h = rw (← is, ← total) (simp (eq-eqb _ _ e, h) (refl, q))
+      counts h = rw (← is) (simp (eq-eqb _ _ e, h) (refl, left))
 
       pub no-place : hasPlace place ≡ false → Does (refused 13) u
       unfolding tallyAnswer talliesLeft
-      no-place h = rw (← is, ← total) (simp (eq-eqb _ _ e, h) (refl, q))
+      no-place h = rw (← is) (simp (eq-eqb _ _ e, h) (refl, left))

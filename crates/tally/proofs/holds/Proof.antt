@@ -5,4 +5,4 @@ use Rattle.tally.proofs.holds.Statement.{statement}
 use Rattle.tally.proofs.holds.Tie as tie
 
 pub holds-spec : {M : Type 1} → statement M
-holds-spec = tie.close (tie.spec (λ c. simp (lt-leb _ _ (c .if1 .taken))) (λ c. simp (le-leb _ _ (c .if1 .left))))
+holds-spec = tie.close (tie.spec (λ c. rw (lt-leb (c .before .args .key) 65535 (c .if1 .taken))) (λ c. rw (le-leb (c .before .args .key) 65535 (c .if1 .left))))

@@ -8,6 +8,6 @@ pub unused-yet-spec : {M : Type 1} → statement M
 unused-yet-spec =
     tie.close
     (tie.spec
-    (λ c. simp (le-ltb _ _ (c .if1 .taken)))
-    (λ c. simp (lt-ltb _ _ (c .before .if1 .left), lt-ltb _ _ (c .if2 .taken)))
-    (λ c. simp (lt-ltb _ _ (c .before .if1 .left), le-ltb _ _ (c .if2 .left))))
+    (λ c. rw (le-ltb 65535 (c .before .args .key) (c .if1 .taken)))
+    (λ c. let a = c .before .before .args in rw (lt-ltb 65535 (a .key) (c .before .if1 .left), lt-ltb (a .free) (a .n) (c .if2 .taken)))
+    (λ c. let a = c .before .before .args in rw (lt-ltb 65535 (a .key) (c .before .if1 .left), le-ltb (a .free) (a .n) (c .if2 .left))))
