@@ -23,15 +23,15 @@ use Rattle.demands.specs.Tally.{keyAt, packetsAt, bytesAt, HoldsAt, Unus
 
 -- TESTS AND FACTS
 keyed-says : (n k : ℕ) → keyed n k ≡ true → (k ≤ 65535) × (k ≡ n)
-keyed-says n k e = go (leb k 65535) refl (eqb k n) refl e
+keyed-says n k e = go (eqb k n) refl (leb k 65535) refl e
   where
-    go : (a : Bool) → leb k 65535 ≡ a → (b : Bool) → eqb k n ≡ b → a && b ≡ true → (k ≤ 65535) × (k ≡ n)
-    go true p true q e = (leb-true k 65535 p, eqb-true k n q)
+    go : (a : Bool) → eqb k n ≡ a → (b : Bool) → leb k 65535 ≡ b → a && b ≡ true → (k ≤ 65535) × (k ≡ n)
+    go true p true q e = (leb-true k 65535 q, eqb-true k n p)
     go true p false q e = absurd (false≢true e)
     go false p b q e = absurd (false≢true e)
 
 keyed-true : (n k : ℕ) → (k ≤ 65535) × (k ≡ n) → keyed n k ≡ true
-keyed-true n k h = rw (le-leb k 65535 (h .0), eq-eqb k n (h .1))
+keyed-true n k h = rw (eq-eqb k n (h .1), le-leb k 65535 (h .0))
 
 none-keyed : (n m : ℕ) (keys : List ℕ) → None (keyed n) keys m → (j : ℕ) → j < m → (getD keys j 0 ≤ 65535) × (getD keys j 0 ≡ n) → ⊥
 none-keyed n m keys none j l h = false≢true (sym (none j l) ∙ keyed-true n (getD keys j 0) h)

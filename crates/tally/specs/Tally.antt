@@ -18,7 +18,7 @@ abbrev pub unused : ℕ → Bool
 unused key = ltb 65535 key
 
 abbrev pub keyed : ℕ → ℕ → Bool
-keyed number key = leb key 65535 && eqb key number
+keyed number key = eqb key number && leb key 65535
 
 -- the place of the first key that passes the test; where none does, one past the last place
 unfoldable pub firstOf : (ℕ → Bool) → List ℕ → ℕ

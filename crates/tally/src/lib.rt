@@ -25,10 +25,10 @@ pub enum Place {
 fn holds(key: u32, number: u32) -> bool
     ensures { λ r. ⌜ r ≡ keyed number key ⌝ }
 {
-    if 65535 < key {
+    if key != number {
         return false;
     }
-    key == number
+    key <= 65535
 }
 
 // The first unused place, where the one so far is given, or n for none, and the next place has this key.
