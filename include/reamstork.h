@@ -40,11 +40,13 @@
  *
  *  - `words` points to at least `len` words of 32 bits, aligned as
  *    uint32_t is; `packet` points to at least `packet_len` bytes; `low`
- *    and `high` point to five words each.  No pointer is null, not even
- *    with a length of 0.
+ *    and `high` point to five words each; `tallies` points to a record.
+ *    No pointer is null, not even with a length of 0.
  *  - A call that writes its words (start, start_with, insert, delete) has
  *    them to itself while it runs: no other thread, interrupt or device
  *    reads or writes them, and `low` and `high` do not lie within them.
+ *    A call that is lent tallies has these to itself in the same way, and
+ *    they lie neither within its words nor within its packet.
  *  - While any other call runs nobody writes its words or its packet, and
  *    the two do not overlap.  Any number of such calls may run at once
  *    over the same words.
@@ -117,6 +119,8 @@ extern "C" {
 #define REAMSTORK_DEFAULT_ACTION   1            /* of reamstork_start        */
 #define REAMSTORK_CELLS_MIN        5            /* least c                   */
 #define REAMSTORK_CELLS_MAX        65536        /* greatest c                */
+#define REAMSTORK_PLACES           65           /* places of a tally record  */
+#define REAMSTORK_UNUSED           4294967295u  /* key of an unused place    */
 
 /* The greatest value in each field. */
 #define REAMSTORK_TOP_ADDRESS      4294967295u
@@ -149,11 +153,13 @@ extern "C" {
 #define REAMSTORK_BAD_PREFIX       10  /* length above 32, or address askew   */
 #define REAMSTORK_BAD_VALUE        11  /* lookup: a value above its top       */
 /* 12 is an answer of the bench program alone: capture not accepted. */
+#define REAMSTORK_NO_PLACE         13  /* tally: a new number finds no place  */
 
 typedef struct { uint32_t answer, rule, action, reads; } reamstork_found;
 typedef struct { uint32_t answer, number, action, low[5], high[5]; } reamstork_rule;
 typedef struct { uint32_t answer, cells; } reamstork_count;
 typedef struct { uint32_t answer, low, high; } reamstork_range;
+typedef struct { uint32_t key[65], packets[65], bytes[65]; } reamstork_tallies;
 
 /*
  * START A STORE
@@ -300,6 +306,53 @@ reamstork_found reamstork_lookup(const uint32_t *words, size_t len, uint32_t des
  * the total length, options and checksums are ignored.
  */
 reamstork_found reamstork_lookup_packet(const uint32_t *words, size_t len, const uint8_t *packet, size_t packet_len);
+
+/*
+ * TALLIES FOR EACH RULE
+ *
+ * A tally record has 65 places, one for each rule of a full table and one
+ * for the default.  Place i is unused where key[i] is above 65,535,
+ * whatever it is.  Otherwise it is the tally of the rule with the number
+ * key[i]: packets[i] and bytes[i] count the packets that the rule decided
+ * and their total lengths.  Both are Counter32 (RFC 2578): after
+ * 4,294,967,295 they start again at 0.
+ *
+ * The words of a record may be any numbers.  Who deletes a rule drops its
+ * tally, by setting key[i] to REAMSTORK_UNUSED where key[i] is its number.
+ *
+ * reamstork_tallies_clear makes every place unused, with REAMSTORK_UNUSED
+ * for its key and 0 for both counts.  It never refuses.
+ */
+void reamstork_tallies_clear(reamstork_tallies *tallies);
+
+/*
+ * LOOK UP AN IPV4 PACKET, AND COUNT IT
+ *
+ *   7  as in reamstork_lookup_packet
+ *   9  as in reamstork_lookup
+ *  13  no place holds the number of the rule that decides, and none is
+ *      unused
+ *   0  done: the answer is that of reamstork_lookup_packet
+ *
+ * in this order.  Done: at the first place that holds the rule's number,
+ * or where none does at the first unused place, whose key becomes the
+ * number and whose counts begin at 0, packets grows by 1 and bytes by the
+ * packet's total length, which its header says.  Every other word of the
+ * record is as before.  Refused: all of them are.  Changes neither words
+ * nor packet.
+ *
+ * Besides the lookup this goes over the 65 keys at most once.
+ */
+reamstork_found reamstork_lookup_packet_tally(const uint32_t *words, size_t len, const uint8_t *packet, size_t packet_len, reamstork_tallies *tallies);
+
+/*
+ * THE DIFFERENCE OF TWO READINGS OF A COUNT
+ *
+ * later less earlier, modulo 2^32.  It is what was added between the two
+ * readings if that was less than 2^32 and the tally was not dropped in
+ * between.  It never refuses.
+ */
+uint32_t reamstork_tally_difference(uint32_t earlier, uint32_t later);
 
 /*
  * TURN AN ADDRESS PREFIX INTO A RANGE

@@ -22,6 +22,9 @@ reamstork_rule plain_read(const uint32_t *words, size_t len, uint32_t number);
 reamstork_count plain_cells(const uint32_t *words, size_t len);
 reamstork_found plain_lookup(const uint32_t *words, size_t len, uint32_t destination, uint32_t source, uint32_t protocol, uint32_t destination_port, uint32_t source_port);
 reamstork_found plain_lookup_packet(const uint32_t *words, size_t len, const uint8_t *packet, size_t packet_len);
+void plain_tallies_clear(reamstork_tallies *tallies);
+reamstork_found plain_lookup_packet_tally(const uint32_t *words, size_t len, const uint8_t *packet, size_t packet_len, reamstork_tallies *tallies);
+uint32_t plain_tally_difference(uint32_t earlier, uint32_t later);
 reamstork_range plain_prefix(uint32_t address, uint32_t length);
 
 #endif

@@ -25,11 +25,12 @@ struct library {
 	uint32_t (*check)(const uint32_t *, size_t);
 	reamstork_found (*lookup)(const uint32_t *, size_t, uint32_t, uint32_t, uint32_t, uint32_t, uint32_t);
 	reamstork_found (*lookup_packet)(const uint32_t *, size_t, const uint8_t *, size_t);
+	reamstork_found (*tally)(const uint32_t *, size_t, const uint8_t *, size_t, reamstork_tallies *);
 };
 
 static const struct library both[2] = {
-	{ reamstork_insert, reamstork_delete, reamstork_check, reamstork_lookup, reamstork_lookup_packet },
-	{ plain_insert, plain_delete, plain_check, plain_lookup, plain_lookup_packet },
+	{ reamstork_insert, reamstork_delete, reamstork_check, reamstork_lookup, reamstork_lookup_packet, reamstork_lookup_packet_tally },
+	{ plain_insert, plain_delete, plain_check, plain_lookup, plain_lookup_packet, plain_lookup_packet_tally },
 };
 
 static _Alignas(64) uint32_t words[REAMSTORK_WORDS(65536)];
@@ -37,6 +38,7 @@ static _Alignas(64) uint32_t tiny[REAMSTORK_WORDS(5)];
 static struct rule rules[64];
 static uint32_t values[PACKETS][5];
 static uint8_t packets[PACKETS][28];
+static reamstork_tallies tallies;
 static _Alignas(64) uint8_t other[OTHER];
 static volatile uint32_t sink;
 static uint32_t rule_count;
@@ -77,6 +79,18 @@ static void by_packet(const struct library *l, double *took)
 
 	for (int i = 0; i < PACKETS; i++)
 		sum += l->lookup_packet(words, len, packets[i], sizeof packets[i]).rule;
+	took[0] = (now() - from) / PACKETS;
+	sink = sum;
+}
+
+/* With tallies, in a record that holds every rule's number, the default's at the end. */
+static void by_tally(const struct library *l, double *took)
+{
+	uint32_t sum = 0;
+	double from = now();
+
+	for (int i = 0; i < PACKETS; i++)
+		sum += l->tally(words, len, packets[i], sizeof packets[i], &tallies).rule;
 	took[0] = (now() - from) / PACKETS;
 	sink = sum;
 }
@@ -193,6 +207,10 @@ static void draw_sample(uint32_t n, uint32_t c, uint32_t budget, int overlap)
 		draw_values(values[i], rules, n);
 		write_packet(packets[i], values[i]);
 	}
+	plain_tallies_clear(&tallies);
+	for (uint32_t i = 0; i < n; i++)
+		tallies.key[i] = rules[i].number;
+	tallies.key[64] = REAMSTORK_DEFAULT;
 }
 
 static void same_answer(reamstork_found a, reamstork_found b)
@@ -225,7 +243,7 @@ static void describe(uint32_t n, uint32_t c)
 
 static void times(uint32_t n, uint32_t c, uint32_t budget, int overlap)
 {
-	static const char *const names[] = { "lookup by values", "lookup by packet", "lookup, cold caches", "lookup, cold words only", "check" };
+	static const char *const names[] = { "lookup by values", "lookup by packet", "lookup with tallies", "lookup, cold caches", "lookup, cold words only", "check" };
 	static const char *const edit_names[] = { "insert", "delete" };
 
 	draw_sample(n, c, budget, overlap);
@@ -233,9 +251,10 @@ static void times(uint32_t n, uint32_t c, uint32_t budget, int overlap)
 	printf("  %-24s %12s    %12s    %8s\n", "", "library", "plain C", "ratio");
 	measure(by_values, 1, &names[0]);
 	measure(by_packet, 1, &names[1]);
-	measure(cold, 1, &names[2]);
-	measure(cold_words, 1, &names[3]);
-	measure(check, 1, &names[4]);
+	measure(by_tally, 1, &names[2]);
+	measure(cold, 1, &names[3]);
+	measure(cold_words, 1, &names[4]);
+	measure(check, 1, &names[5]);
 	measure(edits, 2, edit_names);
 	printf("\n");
 	fflush(stdout);
@@ -249,7 +268,7 @@ static void times(uint32_t n, uint32_t c, uint32_t budget, int overlap)
  */
 static int lookups(const char *name, const char *call, const char *which)
 {
-	int plain = strcmp(name, "plain") == 0, bytes = strcmp(call, "packet") == 0;
+	int plain = strcmp(name, "plain") == 0, bytes = strcmp(call, "packet") == 0, counts = strcmp(call, "tally") == 0;
 	int first = 0, past = PACKETS;
 	uint32_t reads[PACKETS], sum = 0;
 
@@ -268,7 +287,9 @@ static int lookups(const char *name, const char *call, const char *which)
 	for (int i = first; i < past; i++) {
 		const uint32_t *v = values[i];
 
-		if (bytes)
+		if (counts)
+			sum += both[plain].tally(words, len, packets[i], sizeof packets[i], &tallies).reads;
+		else if (bytes)
 			sum += both[plain].lookup_packet(words, len, packets[i], sizeof packets[i]).reads;
 		else
 			sum += both[plain].lookup(words, len, v[0], v[1], v[2], v[3], v[4]).reads;

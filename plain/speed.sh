@@ -53,20 +53,23 @@ echo "Instructions, 60 rules, c = 1920 (callgrind)"
 for name in reamstork plain; do
 	count $name values all ${name}_lookup
 	count $name packet all ${name}_lookup_packet
+	count $name tally all ${name}_lookup_packet_tally
 	count $name values least ${name}_lookup
 	count $name values most ${name}_lookup
 done | awk '
 	{ took[NR] = $1; lookups[NR] = $2; reads[NR] = $3 }
 	END {
 		for (i = 0; i < 2; i++) {
-			values[i] = took[1 + 4 * i] / lookups[1 + 4 * i]
-			packet[i] = took[2 + 4 * i] / lookups[2 + 4 * i]
-			read[i] = (took[4 + 4 * i] - took[3 + 4 * i]) / (reads[4 + 4 * i] - reads[3 + 4 * i])
-			fixed[i] = took[3 + 4 * i] - read[i] * reads[3 + 4 * i]
+			values[i] = took[1 + 5 * i] / lookups[1 + 5 * i]
+			packet[i] = took[2 + 5 * i] / lookups[2 + 5 * i]
+			tally[i] = took[3 + 5 * i] / lookups[3 + 5 * i]
+			read[i] = (took[5 + 5 * i] - took[4 + 5 * i]) / (reads[5 + 5 * i] - reads[4 + 5 * i])
+			fixed[i] = took[4 + 5 * i] - read[i] * reads[4 + 5 * i]
 		}
 		printf "  %-24s %12s    %12s    %8s\n", "", "library", "plain C", "ratio"
 		row("lookup by values, mean", values)
 		row("lookup by packet, mean", packet)
+		row("with tallies, mean", tally)
 		row("one read more", read)
 		row("a lookup beside reads", fixed)
 	}

@@ -21,6 +21,7 @@ static const size_t len = REAMSTORK_WORDS(CELLS);
 static struct rule rules[64];
 static uint32_t values[5];
 static uint8_t packet[28];
+static reamstork_tallies tallies;
 static uint32_t answer;
 
 static _Alignas(64) uint8_t stack[STACK];
@@ -114,6 +115,16 @@ static void lookup_packet(void)
 	answer |= reamstork_lookup_packet(words, len, packet, sizeof packet).answer;
 }
 
+static void lookup_packet_tally(void)
+{
+	answer |= reamstork_lookup_packet_tally(words, len, packet, sizeof packet, &tallies).answer;
+}
+
+static void tallies_clear(void)
+{
+	reamstork_tallies_clear(&tallies);
+}
+
 static void prefix(void)
 {
 	answer |= reamstork_prefix(0x0a000000, 24).answer;
@@ -135,7 +146,7 @@ static void in_turn(size_t *a, size_t *b, void (*f)(void), void (*g)(void))
 
 static void say(const char *name, size_t bytes)
 {
-	printf("  %-24s %8zu bytes\n", name, bytes);
+	printf("  %-30s %8zu bytes\n", name, bytes);
 }
 
 int main(void)
@@ -146,6 +157,7 @@ int main(void)
 	draw_table(words, len, CELLS, rules, 64, 60000, 1);
 	draw_values(values, rules, 64);
 	write_packet(packet, values);
+	reamstork_tallies_clear(&tallies);
 	printf("64 rules, c = %d, %u cells in use\n", CELLS, reamstork_cells(words, len).cells);
 	in_turn(&a, &b, take_out, put_in);
 	say("reamstork_start", used(start) - base);
@@ -157,6 +169,8 @@ int main(void)
 	say("reamstork_cells", used(cells) - base);
 	say("reamstork_lookup", used(lookup) - base);
 	say("reamstork_lookup_packet", used(lookup_packet) - base);
+	say("reamstork_lookup_packet_tally", used(lookup_packet_tally) - base);
+	say("reamstork_tallies_clear", used(tallies_clear) - base);
 	say("reamstork_prefix", used(prefix) - base);
 	if (answer != 0) {
 		printf("a call was refused: %u\n", answer);

@@ -14,13 +14,16 @@ from collections import Counter
 
 RESET, MAKE, LEND, SET, GET, DIGEST, SAME, COPY = range(8)
 START, START_WITH, INSERT, DELETE, CHECK, READ, CELLS, LOOKUP, PACKET, PREFIX, SCAN = range(16, 27)
+TALLY, CLEAR, DIFFERENCE = range(32, 35)
+RECORD = 3 * 65
 NAMES = {RESET: 'reset', MAKE: 'make', LEND: 'lend', SET: 'set', GET: 'get', DIGEST: 'digest',
          SAME: 'same', COPY: 'copy', START: 'start', START_WITH: 'start_with', INSERT: 'insert',
          DELETE: 'delete', CHECK: 'check', READ: 'read', CELLS: 'cells', LOOKUP: 'lookup',
-         PACKET: 'lookup_packet', PREFIX: 'prefix', SCAN: 'scan'}
+         PACKET: 'lookup_packet', PREFIX: 'prefix', SCAN: 'scan', TALLY: 'lookup_packet_tally',
+         CLEAR: 'tallies_clear', DIFFERENCE: 'tally_difference'}
 SIZES = {RESET: 0, MAKE: 0, LEND: 0, SET: 0, DIGEST: 2, SAME: 1, COPY: 0, START: 1, START_WITH: 1,
          INSERT: 1, DELETE: 1, CHECK: 1, READ: 13, CELLS: 2, LOOKUP: 4, PACKET: 4, PREFIX: 3,
-         SCAN: 66}
+         SCAN: 66, TALLY: 4 + RECORD, CLEAR: RECORD, DIFFERENCE: 1}
 EDITS = (MAKE, LEND, SET, COPY, START, START_WITH, INSERT, DELETE)
 GUARDED, END_AT_WALL, FRONT_AT_WALL = range(3)
 NO_DIFFERENCE = 0xFFFFFFFF
@@ -31,10 +34,11 @@ FAULTS = {1: 'a guard word in front of the store was written',
           4: 'a refused edit changed a word',
           5: 'an accepted edit changed a word behind its store',
           6: 'the bytes of a packet were changed',
-          7: 'the ends of a rule were changed'}
+          7: 'the ends of a rule were changed',
+          8: 'a guard word in front of a tally record was written'}
 
 HEAD = struct.Struct('<7I')
-PACKERS = {n: struct.Struct('<%dI' % n) for n in range(1, 68)}
+PACKERS = {n: struct.Struct('<%dI' % n) for n in [*range(1, 68), RECORD, 4 + RECORD]}
 
 
 class Disagreement(Exception):
@@ -174,6 +178,18 @@ class Talk:
         self.queue_command(PACKET, (store, len(packet)), want,
                            tail=packet + bytes(-len(packet) % 4))
 
+    def tally(self, store, packet, record, want=None):
+        """A record is its 65 keys, 65 packets and 65 bytes; `want` is the four
+        numbers of the answer and then the record that is left."""
+        self.queue_command(TALLY, (store, len(packet)), want,
+                           tail=array('I', record).tobytes() + packet + bytes(-len(packet) % 4))
+
+    def clear(self, record, want=None):
+        self.queue_command(CLEAR, (), want, tail=array('I', record).tobytes())
+
+    def difference(self, earlier, later, want=None):
+        self.queue_command(DIFFERENCE, (earlier, later), want)
+
     def prefix(self, address, length, want=None):
         self.queue_command(PREFIX, (address, length), want)
 
@@ -205,7 +221,7 @@ class Talk:
             got = PACKERS[size].unpack_from(results, at) if size in PACKERS else array(
                 'I', results[at:at + 4 * size])
             at += 4 * size
-            if START <= op <= PREFIX:
+            if START <= op <= PREFIX or op == TALLY:
                 self.answers[got[0]] += 1
             if want is None:
                 answers.append(got)
@@ -239,6 +255,9 @@ def spell(op, numbers, tail):
     text = '%s(%s)' % (NAMES[op], ', '.join(map(str, numbers)))
     if tail and op == PACKET:
         text += ' bytes ' + tail[:numbers[1]][:80].hex()
+    elif op == TALLY:
+        text += ' bytes %s record %s' % (tail[4 * RECORD:][:numbers[1]][:80].hex(),
+                                         ' '.join(map(str, array('I', tail[:4 * RECORD]))))
     elif tail:
         text += ' words ' + ' '.join(map(str, array('I', tail)[:40]))
     return text

@@ -13,8 +13,9 @@
      it, after each accepted start or edit;
    - the bytes of a packet and the ends of a rule, lent for reading.
    A store can be laid against memory that can't be read at all, at its
-   front or at its end, and a packet always ends against such memory, so that
-   a read outside the slice ends the program.
+   front or at its end, and a packet and a tally record always end against
+   such memory, so that a read outside them ends the program. In front of a
+   tally record stand guard words.
 
    A batch is one number, its length in words, and then that many words. All
    numbers are 32 bits, least significant byte first. The answer to a batch is
@@ -41,7 +42,8 @@ enum { COMPARED_AT_ONCE = 1 << 14 };
 enum {
   RESET = 0, MAKE = 1, LEND = 2, SET = 3, GET = 4, DIGEST = 5, SAME = 6, COPY = 7,
   START = 16, START_WITH = 17, INSERT = 18, DELETE = 19, CHECK = 20, READ = 21,
-  CELLS = 22, LOOKUP = 23, PACKET = 24, PREFIX = 25, SCAN = 26
+  CELLS = 22, LOOKUP = 23, PACKET = 24, PREFIX = 25, SCAN = 26,
+  TALLY = 32, CLEAR = 33, DIFFERENCE = 34
 };
 
 /* How a store lies in memory. */
@@ -50,7 +52,7 @@ enum { GUARDED = 0, END_AT_WALL = 1, FRONT_AT_WALL = 2 };
 /* Kinds of fault. */
 enum {
   GUARD_IN_FRONT = 1, GUARD_BEHIND = 2, READER_WROTE = 3, REFUSED_EDIT_WROTE = 4,
-  WROTE_BEHIND = 5, PACKET_WRITTEN = 6, ENDS_WRITTEN = 7
+  WROTE_BEHIND = 5, PACKET_WRITTEN = 6, ENDS_WRITTEN = 7, GUARD_OF_RECORD = 8
 };
 
 struct store {
@@ -67,6 +69,7 @@ static uint32_t *batch, *results;
 static size_t batch_room, results_room, at, batch_size, given;
 static uint32_t calls, faults, fault_command, fault_kind, fault_store, fault_position, command;
 static uint8_t *packet_end;
+static reamstork_tallies *record;
 
 static void stop(const char *why) {
   fprintf(stderr, "driver: %s\n", why);
@@ -290,13 +293,33 @@ static void give_found(reamstork_found found) {
   out[0] = found.answer, out[1] = found.rule, out[2] = found.action, out[3] = found.reads;
 }
 
-static void call_packet(struct store *s) {
+/* A tally record comes in a batch as its words, and goes back as such. */
+static void lend_record(void) {
+  memcpy(record, next_many(sizeof *record / 4), sizeof *record);
+}
+
+static void give_record(void) {
+  uint32_t *guard = (uint32_t *)record - GUARD;
+  memcpy(give(sizeof *record / 4), record, sizeof *record);
+  for (size_t i = 0; i < GUARD; i++) {
+    if (guard[i] != guard_word(i)) fault(GUARD_OF_RECORD, NULL, i);
+    guard[i] = guard_word(i);
+  }
+}
+
+static void call_packet(struct store *s, uint32_t op) {
   size_t size = next();
   if (size > 2 * BLOCK) stop("packet too long");
+  if (op == TALLY) lend_record();
   const uint32_t *bytes = next_many((size + 3) / 4);
   uint8_t *packet = packet_end - size;
   memcpy(packet, bytes, size);
-  give_found(reamstork_lookup_packet(s->words, s->lent, packet, size));
+  if (op == PACKET) {
+    give_found(reamstork_lookup_packet(s->words, s->lent, packet, size));
+  } else {
+    give_found(reamstork_lookup_packet_tally(s->words, s->lent, packet, size, record));
+    give_record();
+  }
   if (memcmp(packet, bytes, size)) fault(PACKET_WRITTEN, s, 0);
 }
 
@@ -329,7 +352,7 @@ static void look(uint32_t op) {
     const uint32_t *v = next_many(5);
     give_found(reamstork_lookup(s->words, s->lent, v[0], v[1], v[2], v[3], v[4]));
   }
-  if (op == PACKET) call_packet(s);
+  if (op == PACKET || op == TALLY) call_packet(s, op);
   if (op == SCAN) scan(s);
   after_reader(s);
 }
@@ -339,6 +362,19 @@ static void call_prefix(void) {
   reamstork_range range = reamstork_prefix(address, next());
   uint32_t *out = give(3);
   out[0] = range.answer, out[1] = range.low, out[2] = range.high;
+  calls++;
+}
+
+static void call_clear(void) {
+  lend_record();
+  reamstork_tallies_clear(record);
+  give_record();
+  calls++;
+}
+
+static void call_difference(void) {
+  uint32_t earlier = next();
+  give_one(reamstork_tally_difference(earlier, next()));
   calls++;
 }
 
@@ -371,7 +407,9 @@ static void run_batch(void) {
     if (op <= COPY) housekeeping(op);
     else if (op >= START && op <= DELETE) edit(op);
     else if (op == PREFIX) call_prefix();
-    else if (op >= CHECK && op <= SCAN) look(op);
+    else if (op == CLEAR) call_clear();
+    else if (op == DIFFERENCE) call_difference();
+    else if ((op >= CHECK && op <= SCAN) || op == TALLY) look(op);
     else stop("no such command");
   }
   for (size_t i = 0; i < STORES; i++) compare_late(&stores[i]);
@@ -382,6 +420,8 @@ int main(void) {
   size_t size;
   uint32_t length;
   packet_end = (uint8_t *)walled(2 * BLOCK, &area, &size) + 2 * BLOCK;
+  record = (reamstork_tallies *)(walled(BLOCK, &area, &size) + BLOCK / 4) - 1;
+  for (size_t i = 0; i < GUARD; i++) ((uint32_t *)record - GUARD)[i] = guard_word(i);
   while (take(&length, 4)) {
     batch_size = length;
     if (batch_size > batch_room) {

@@ -23,14 +23,15 @@ from hostile import garbage, hostile, hostile_large, mazes
 from limits import (any_words_before, bench_table, every_length, order_of_refusals,
                     seven_before_nine, sixty_four, starts)
 from packets import BenchProgram, captures, every_prefix, header_grid, headers, prefixes
+from tallies import differences, hostile_tallies, tallies, tally_edges
 
 FIXED = [bench_table, starts, any_words_before, every_length, sixty_four, order_of_refusals,
-         header_grid, seven_before_nine, every_prefix, captures]
+         header_grid, seven_before_nine, every_prefix, captures, tally_edges]
 
 # In this order again and again; the costly ones come seldom.
 RANDOM = [edits, hostile, fit, headers, edits, histories, hostile, garbage, edits, crowd, fit,
           histories, hostile, prefixes, edits, headers, large, hostile, histories, hostile_large,
-          mazes, mazes]
+          mazes, mazes, tallies, differences, tallies, hostile_tallies]
 
 
 class Run:

@@ -17,6 +17,7 @@ LEAST_CELLS, MOST_CELLS = 5, 65536
 DONE = 0
 NUMBER_TOO_HIGH, BAD_RANGE, ALREADY_THERE, NOT_THERE, TABLE_FULL, NO_ROOM = 1, 2, 3, 4, 5, 6
 NOT_READABLE, BAD_START, BAD_STORE, BAD_PREFIX, ABOVE_TOP, BAD_CAPTURE = 7, 8, 9, 10, 11, 12
+NO_PLACE = 13
 
 Rule = namedtuple('Rule', 'number action low high')
 
@@ -156,6 +157,47 @@ class Account:
         if values is None:
             return (NOT_READABLE, 0, 0, 0)
         return self.lookup(values)
+
+
+# ---- tallies ------------------------------------------------------------
+
+class Tally:
+    """A tally record: 65 places, each a key, packets and bytes."""
+
+    def __init__(self, words):
+        self.places = [list(place) for place in zip(words[:65], words[65:130], words[130:])]
+
+    def words(self):
+        return tuple(place[part] for part in range(3) for place in self.places)
+
+    def find(self, number):
+        """The first place keyed by the number. A key above 65,535 means
+        unused, whatever it is."""
+        for place in self.places:
+            if place[0] == number and number <= DEFAULT:
+                return place
+        return None
+
+    def lookup(self, found, packet):
+        """`found` is what a lookup without tallies answers for the packet;
+        gives what the lookup that counts answers."""
+        if found[0]:
+            return found
+        place = self.find(found[1])
+        if place is None:
+            place = next((p for p in self.places if p[0] > DEFAULT), None)
+            if place is None:
+                return (NO_PLACE, 0, 0, 0)
+            place[:] = [found[1], 0, 0]
+        total = packet[2] * 256 + packet[3]
+        place[1] = (place[1] + 1) % 2 ** 32
+        place[2] = (place[2] + total) % 2 ** 32
+        return found
+
+    def drop(self, number, key):
+        for place in self.places:
+            if place[0] == number:
+                place[0] = key
 
 
 # ---- headers, prefixes, captures ----------------------------------------

@@ -30,6 +30,7 @@ use Rattle.lookup.specs.declared.Walked.the-variants.{At, Lost}
 use Rattle.lookup.specs.Walk.{walkOf, refused as refusal, partIn, enough, ruleIn, lookupOf}
 use Rattle.lookup.specs.Walk.{lookupHeader, lookupPacket}
 use Rattle.demands.specs.Calls.{Passes, top, low, high, Bytes, lookup}
+use Rattle.demands.proofs.Tally.{tally-before, tally-13, tally-zeros, tally-kept}
 use Rattle.demands.specs.Demand1.{First, refused, passed, done, WrongRange, NoRoom, AboveTop, Kept, Zeros, Demand1}
 use Rattle.demands.proofs.Held.{Leaves, kept, start-leaves, insert-leaves, delete-leaves}
 use Rattle.demands.proofs.Fields.{wrong-from, right-from}
@@ -196,4 +197,8 @@ demand1 =
       lookup-zeros = zeros;
       packet-answer = packet-lines;
       packet-zeros = packet-zero;
+      tally-before = tally-before;
+      tally-13 = tally-13;
+      tally-zeros = λ ws bytes t. tally-zeros ws bytes t (packet-zero ws bytes);
+      tally-kept = tally-kept;
     }

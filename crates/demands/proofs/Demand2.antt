@@ -1,7 +1,7 @@
 -- Demand 2 holds.
 -- Assumes nothing.
 use mathlib.Core.Path.{_≡_, refl, sym, ap, subst, _∙_}
-use mathlib.Core.Logic.{inl, inr, _↔_}
+use mathlib.Core.Logic.{inl, inr, ⊎-elim, _↔_}
 use mathlib.Core.Bool.{Bool, true, false, cond, _||_}
 use mathlib.Core.List.{List, [], _∷_}
 use Prim.Native.Nat.{ℕ}
@@ -24,6 +24,7 @@ use Rattle.stored.specs.Store.{cellsIn, tableOf, readSays, readGives}
 use Rattle.lookup.specs.declared.Found.{Found}
 use Rattle.lookup.specs.Walk.{lookupPacket}
 use Rattle.demands.specs.Calls.{Passes, rulesIn, defaultIn, everyIn, Bytes, lookup}
+use Rattle.demands.proofs.Tally.{tally-same}
 use Rattle.demands.specs.Demand2.{Names, Edited, Demand2}
 use Rattle.demands.proofs.Held.{Leaves, right, checked-0, start-leaves, insert-leaves, delete-leaves}
 use Rattle.demands.proofs.Decided.{tops-right, lookup-says}
@@ -101,6 +102,7 @@ demand2 =
     record {
       by-values = names;
       by-packet = packet-names;
+      by-tally = λ ws h bytes b p e t. ⊎-elim inl (λ q. inr (rw q (packet-names ws h bytes b p e .1))) (tally-same ws bytes t);
       default = default-in;
       insert = λ ws r h. edited _ (insert-leaves ws r h) refl refl (λ s. (from-added r s (rulesIn ws), in-added r s (rulesIn ws)));
       delete = λ ws n h. edited _ (delete-leaves ws n h) refl refl (λ s. (from-removed n (rulesIn ws) s, λ m. in-removed n (rulesIn ws) s (m .0) (m .1)));

@@ -22,6 +22,7 @@ use Rattle.stored.specs.Store.{size, text, cellsIn, tableOf, passes, unless, st
 use Rattle.lookup.specs.declared.Found.{Found}
 use Rattle.lookup.specs.Walk.{lookupHeader, lookupPacket}
 use Rattle.demands.specs.Calls.{Passes, rulesIn, everyIn, Bytes, lookup}
+use Rattle.demands.proofs.Tally.{tally-done, same-answer, same-left}
 use Rattle.demands.specs.Demand1.{AboveTop}
 use Rattle.demands.specs.Demand3.{Edit, insert, delete, edited, run, History, words, SameRules, Alike, Reads, Demand3}
 use Rattle.demands.proofs.Held.{Leaves, right, front, kept, start-leaves, insert-leaves, delete-leaves}
@@ -83,6 +84,8 @@ module _ (ws vs : List ℕ) (g : Passes ws) (h : Passes vs) (e : tableOf ipv4 ws
       record {
         by-values = same-lookup;
         by-packet = same-packet;
+        by-tally = λ bytes t. same-answer ws vs bytes t (same-packet bytes);
+        same-tallies = λ bytes t. same-left ws vs bytes t (same-packet bytes);
         cells-answer = ap (λ (b : Bool). cond b 0 9) (g ∙ sym h);
         cells = ap₂ (λ (b : Bool) (t : Table). cond b (cellsOf ipv4 t) 0) (g ∙ sym h) e;
       }
@@ -117,6 +120,7 @@ demand3 =
       passes = stays;
       count = count;
       count-packet = packet-count;
+      count-tally = λ ws h bytes b p e t q. rw (tally-done ws bytes t q) (packet-count ws h bytes b p e);
       most-each = count-each;
       most = λ ws h p t. rw (ap (λ (f : Found). f .reads) (lookup-says ws p h t)) (reads-most ipv4 (tableOf ipv4 ws) (valuesOf (Values p)) (tops-right p t));
     }

@@ -4,6 +4,7 @@ pub mod Values
 pub mod Fields
 pub mod Counted
 pub mod Links
+pub mod Tally
 pub mod Demand1
 pub mod Demand2
 pub mod Demand3

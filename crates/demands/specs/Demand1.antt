@@ -17,7 +17,10 @@ use Rattle.table.specs.Rows.{given}
 use Rattle.stored.specs.Store.{size, cellsIn, tableOf, startAnswer, startWords, insertSays, insertWords, deleteSays, deleteWords, readSays, readGives, zeroRule, cellsSays, cellsGives}
 use Rattle.lookup.specs.declared.Found.{Found}
 use Rattle.lookup.specs.Walk.{lookupPacket}
+use Rattle.tally.specs.declared.Tallies.{Tallies}
+use Rattle.tally.specs.Tally.{tallyAnswer, talliesLeft}
 use Rattle.demands.specs.Calls.{Passes, rulesIn, value, top, low, high, Bytes, lookup}
+use Rattle.demands.specs.Tally.{NoPlace}
 
 -- THE TABLE OF REFUSALS, "given exactly when", in an order: either P holds and the answer is n, or it does not and what follows says the answer. The last is 0, "done".
 pub data First (n : ℕ) (P : Type 0) (others : ℕ → Type 0) (answer : ℕ) : Type 0 where
@@ -90,3 +93,9 @@ pub record Demand1 : Type 0 where
   -- LOOKUP BY A PACKET: 7 exactly when one of document 01's six conditions holds
   pub packet-answer : (ws bytes : List ℕ) → Bytes bytes → First 7 (Refused bytes) (λ answer. (answer ≡ 9) ⊎ done answer) (lookupPacket ws bytes .answer)
   pub packet-zeros : (ws bytes : List ℕ) → lookupPacket ws bytes .answer ≢ 0 → Zeros (lookupPacket ws bytes)
+  -- LOOKUP BY A PACKET WITH TALLIES: the refusals of the lookup by a packet, then "13 when a new number finds no place, after all others"
+  pub tally-before : (ws bytes : List ℕ) (t : Tallies) → lookupPacket ws bytes .answer ≢ 0 → tallyAnswer ws bytes t ≡ lookupPacket ws bytes
+  pub tally-13 : (ws bytes : List ℕ) (t : Tallies) → lookupPacket ws bytes .answer ≡ 0 → First 13 (NoPlace (lookupPacket ws bytes .rule) t) done (tallyAnswer ws bytes t .answer)
+  pub tally-zeros : (ws bytes : List ℕ) (t : Tallies) → tallyAnswer ws bytes t .answer ≢ 0 → Zeros (tallyAnswer ws bytes t)
+  -- "A refused lookup [..] add[s] nothing"
+  pub tally-kept : (ws bytes : List ℕ) (t : Tallies) → tallyAnswer ws bytes t .answer ≢ 0 → talliesLeft ws bytes t ≡ t

@@ -14,6 +14,8 @@ use Rattle.header.specs.Facts.{WithinTops}
 use Rattle.stored.specs.Store.{cellsIn, startAnswer, startWords, insertSays, insertWords, deleteSays, deleteWords, readSays, readGives}
 use Rattle.lookup.specs.declared.Found.{Found}
 use Rattle.lookup.specs.Walk.{lookupPacket}
+use Rattle.tally.specs.declared.Tallies.{Tallies}
+use Rattle.tally.specs.Tally.{tallyAnswer}
 use Rattle.demands.specs.Calls.{Passes, rulesIn, defaultIn, everyIn, Holds, Bytes, lookup}
 
 -- the lookup of the packet p in the words ws names the right rule
@@ -50,6 +52,8 @@ pub record Demand2 : Type 0 where
   pub by-values : (ws : List ℕ) → Passes ws → (p : Packet) → WithinTops p → Names ws p (lookup ws p)
   -- the lookup by a packet whose header gives the values p: `headerOf` of header/specs/Header.antt says where the RFCs put each. They are never above their tops.
   pub by-packet : (ws : List ℕ) → Passes ws → (bytes : List ℕ) → Bytes bytes → (p : Packet) → headerOf bytes ≡ Values p → WithinTops p × Names ws p (lookupPacket ws bytes)
+  -- the lookup with tallies, whatever the record holds: "Demand 2 excepts a lookup refused with 13"
+  pub by-tally : (ws : List ℕ) → Passes ws → (bytes : List ℕ) → Bytes bytes → (p : Packet) → headerOf bytes ≡ Values p → (t : Tallies) → (tallyAnswer ws bytes t .answer ≡ 13) ⊎ Names ws p (tallyAnswer ws bytes t)
   -- "The default rule has number 65,535 and full ranges": it is always there
   pub default : (ws : List ℕ) → In (defaultRule ipv4 (defaultIn ws)) (everyIn ws)
   -- "An accepted insert adds that rule, [..] and every other rule stays"

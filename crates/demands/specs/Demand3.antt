@@ -14,6 +14,8 @@ use Rattle.header.specs.Header.{headerOf}
 use Rattle.header.specs.Facts.{WithinTops}
 use Rattle.stored.specs.Store.{size, cellsIn, startAnswer, startWords, insertWords, deleteWords, cellsSays, cellsGives}
 use Rattle.lookup.specs.Walk.{lookupPacket}
+use Rattle.tally.specs.declared.Tallies.{Tallies}
+use Rattle.tally.specs.Tally.{tallyAnswer, talliesLeft}
 use Rattle.demands.specs.Calls.{Passes, rulesIn, defaultIn, everyIn, value, low, high, Holds, Bytes, lookup}
 
 -- AN EDIT, and the words that it leaves, accepted or refused; a run of edits
@@ -53,6 +55,9 @@ pub record Alike (ws vs : List ℕ) : Type 0 where
   -- the answer, the rule, the action and the count of reads
   pub by-values : (p : Packet) → lookup ws p ≡ lookup vs p
   pub by-packet : (bytes : List ℕ) → lookupPacket ws bytes ≡ lookupPacket vs bytes
+  -- "demand 3 lends both lookups equal tallies": they answer the same, and leave the same record
+  pub by-tally : (bytes : List ℕ) (t : Tallies) → tallyAnswer ws bytes t ≡ tallyAnswer vs bytes t
+  pub same-tallies : (bytes : List ℕ) (t : Tallies) → talliesLeft ws bytes t ≡ talliesLeft vs bytes t
   pub cells-answer : cellsSays ipv4 ws ≡ cellsSays ipv4 vs
   pub cells : cellsGives ipv4 ws ≡ cellsGives ipv4 vs
 
@@ -83,6 +88,8 @@ pub record Demand3 : Type 0 where
   -- "The count is, ..", over the store's rules, "the default's ends included"
   pub count : (ws : List ℕ) → Passes ws → (p : Packet) → WithinTops p → Reads (everyIn ws) p (lookup ws p .reads)
   pub count-packet : (ws : List ℕ) → Passes ws → (bytes : List ℕ) → Bytes bytes → (p : Packet) → headerOf bytes ≡ Values p → Reads (everyIn ws) p (lookupPacket ws bytes .reads)
+  -- with tallies, "its sum where neither is refused"
+  pub count-tally : (ws : List ℕ) → Passes ws → (bytes : List ℕ) → Bytes bytes → (p : Packet) → headerOf bytes ≡ Values p → (t : Tallies) → tallyAnswer ws bytes t .answer ≡ 0 → Reads (everyIn ws) p (tallyAnswer ws bytes t .reads)
   -- "With n rules besides the default it is at most 2 × n + 1 in each field", and so in all: a bound for the sheet
   pub most-each : (ws : List ℕ) (h : Passes ws) (p : Packet) (t : WithinTops p) → (i : ℕ) → i < 5 → 1 + length (count ws h p t .ends i) ≤ 2 * length (rulesIn ws) + 1
   pub most : (ws : List ℕ) → Passes ws → (p : Packet) → WithinTops p → lookup ws p .reads ≤ 5 * (2 * length (rulesIn ws) + 1)

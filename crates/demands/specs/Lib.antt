@@ -1,7 +1,8 @@
--- To be read in this order: what the demands speak of, the three demands, what the store check says, and document 01's starred list.
+-- To be read in this order: what the demands speak of, the three demands, what the store check says, document 01's starred list, and the tallies of request P1.
 pub mod Calls
 pub mod Demand1
 pub mod Demand2
 pub mod Demand3
 pub mod Check
 pub mod Bench
+pub mod Tally

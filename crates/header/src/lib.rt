@@ -124,7 +124,15 @@ fn total_length(s: &[u8]) -> usize
     requires { ⌜ 20 ≤ length (now s) ⌝ }
     ensures { λ r. ⌜ r ≡ totalLength (now (s .entry)) ⌝ }
 {
-    half_at(s, 2) as usize
+    packet_length(s) as usize
+}
+
+// The same as the number of 32 bits that a tally adds.
+pub fn packet_length(s: &[u8]) -> u32
+    requires { ⌜ 20 ≤ length (now s) ⌝ }
+    ensures { λ r. ⌜ (r ≡ totalLength (now (s .entry))) × (r < 65536) ⌝ }
+{
+    half_at(s, 2)
 }
 
 // The 32-bit number at a place, most significant byte first.

@@ -67,7 +67,7 @@ fn walk(part: &[u32], c: u32, values: &[u32]) -> Walked
 }
 
 // A refusal: its number, and zeros.
-fn refuse(answer: u32) -> Found
+pub fn refuse(answer: u32) -> Found
     ensures { λ r. ⌜ r ≡ refused answer ⌝ }
 {
     Found {

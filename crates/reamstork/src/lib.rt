@@ -4,11 +4,13 @@ ghost use Rattle.model.specs.Ipv4.{ipv4};
 ghost use Rattle.prefix.specs.Prefix.{rangeOf};
 ghost use Rattle.stored.specs.Store.{startAnswer, startWords, insertSays, insertWords, deleteSays, deleteWords, readSays, readGives, cellsSays, cellsGives};
 ghost use Rattle.lookup.specs.Walk.{lookupValues, lookupPacket};
+ghost use Rattle.tally.specs.Tally.{tallyAnswer, talliesLeft, cleared, difference};
 ghost use Rattle.reamstork.specs.Face.{ruleOf, ruleRead, checkSays};
 use lookup::Found;
 use prefix::Range;
 use store::Count;
 use table::Rule;
+use tally::Tallies;
 
 // What reading a rule gives: the answer, and the rule, or zeros with a refusal.
 #[repr(C)]
@@ -134,4 +136,38 @@ pub extern "C" fn reamstork_prefix(address: u32, length: u32) -> Range
     ensures { λ r. ⌜ r ≡ rangeOf address length ⌝ }
 {
     prefix::range_of(address, length)
+}
+
+// Clears a tally record: every place is unused, and every count is 0.
+#[no_mangle]
+pub extern "C" fn reamstork_tallies_clear(tallies: &mut Tallies)
+    ensures { λ _. ⌜ now (tallies .exit) ≡ cleared ⌝ }
+{
+    tally::clear(&mut tallies.key, &mut tallies.packets, &mut tallies.bytes)
+}
+
+// Looks an IPv4 packet up, and adds to the tally of the rule that decides.
+#[no_mangle]
+pub extern "C" fn reamstork_lookup_packet_tally(
+    words: &[u32],
+    packet: &[u8],
+    tallies: &mut Tallies,
+) -> Found
+    ensures { λ r. ⌜ (r ≡ tallyAnswer (now (words .entry)) (now (packet .entry)) (now (tallies .entry))) × (now (tallies .exit) ≡ talliesLeft (now (words .entry)) (now (packet .entry)) (now (tallies .entry))) ⌝ }
+{
+    tally::lookup_packet(
+        words,
+        packet,
+        &mut tallies.key,
+        &mut tallies.packets,
+        &mut tallies.bytes,
+    )
+}
+
+// What was added to a count between two readings of it.
+#[no_mangle]
+pub extern "C" fn reamstork_tally_difference(earlier: u32, later: u32) -> u32
+    ensures { λ r. ⌜ r ≡ difference earlier later ⌝ }
+{
+    tally::difference(earlier, later)
 }

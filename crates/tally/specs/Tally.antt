@@ -1,0 +1,81 @@
+-- Tallies for each rule, request P1: what a lookup that counts answers, and what it leaves of the tally record that it was lent.
+-- A record has 65 places, each with a key, a count of packets and a count of bytes. Its words may be any numbers.
+-- Assumes nothing: these are definitions.
+use mathlib.Core.Bool.{Bool, true, false, cond, _&&_}
+use mathlib.Core.List.{List, [], _∷_}
+use Prim.Native.Nat.{ℕ, suc, _+_, _-_, _%_, _^_}
+use lib.Dec.{ltb, leb, eqb}
+use lib.ListN.{length, getD, set, replicate}
+use Rattle.header.specs.Header.{totalLength}
+use Rattle.lookup.specs.declared.Found.{Found}
+use Rattle.lookup.specs.Walk.{refused, lookupPacket}
+use Rattle.tally.specs.declared.Tallies.{Tallies}
+use Rattle.tally.specs.declared.Place.{Place}
+use Rattle.tally.specs.declared.Place.the-variants.{Held, New, Full}
+
+-- WHERE A NUMBER COUNTS. "There are 65 places, each unused or keyed by a rule number": a rule's number is at most 65,535, the default's, and a key above that means unused
+abbrev pub unused : ℕ → Bool
+unused key = ltb 65535 key
+
+abbrev pub keyed : ℕ → ℕ → Bool
+keyed number key = eqb key number && leb key 65535
+
+-- the place of the first key that passes the test; where none does, one past the last place
+unfoldable pub firstOf : (ℕ → Bool) → List ℕ → ℕ
+firstOf test [] = 0
+firstOf test (key ∷ keys) = cond (test key) 0 (suc (firstOf test keys))
+
+-- "a number held twice counts in the first, a number not yet held takes the first unused one"
+unfoldable pub placeOf : ℕ → List ℕ → Place
+placeOf number keys =
+    let held = firstOf (keyed number) keys in
+    let free = firstOf unused keys in
+    cond (ltb held (length keys)) (Held held) (cond (ltb free (length keys)) (New free) Full)
+
+-- WHAT IS ADDED. "Both are Counter32 as in RFC 2578: a tally starts again at zero after 4,294,967,295"
+unfoldable pub plus : ℕ → ℕ → ℕ
+plus count n = (count + n) % 2 ^ 32
+
+abbrev pub addedAt : ℕ → ℕ → List ℕ → List ℕ
+addedAt place n counts = set counts place (plus (getD counts place 0) n)
+
+-- "for the winning rule it adds one packet and the packet's total length in bytes. [..] Every other tally stays"
+abbrev pub added : ℕ → ℕ → Tallies → Tallies
+added place bytes t = record { key = t .key; packets = addedAt place 1 (t .packets); bytes = addedAt place bytes (t .bytes) }
+
+-- a number takes a place, "from zero"
+abbrev pub begun : ℕ → ℕ → Tallies → Tallies
+begun place number t = record { key = set (t .key) place number; packets = set (t .packets) place 0; bytes = set (t .bytes) place 0 }
+
+abbrev pub counted : Place → ℕ → ℕ → Tallies → Tallies
+counted (Held place) number bytes t = added place bytes t
+counted (New place) number bytes t = added place bytes (begun place number t)
+counted Full number bytes t = t
+
+abbrev pub hasPlace : Place → Bool
+hasPlace (Held place) = true
+hasPlace (New place) = true
+hasPlace Full = false
+
+-- THE LOOKUP BY A PACKET THAT COUNTS: what it answers, "13 when a new number finds no place, after all others"; and the record that it leaves, as it was where the lookup is refused
+unfoldable pub tallyAnswer : List ℕ → List ℕ → Tallies → Found
+tallyAnswer words packet t =
+    let f = lookupPacket words packet in
+    cond (eqb (f .answer) 0) (cond (hasPlace (placeOf (f .rule) (t .key))) f (refused 13)) f
+
+unfoldable pub talliesLeft : List ℕ → List ℕ → Tallies → Tallies
+talliesLeft words packet t =
+    let f = lookupPacket words packet in
+    cond (eqb (f .answer) 0) (counted (placeOf (f .rule) (t .key)) (f .rule) (totalLength packet) t) t
+
+-- a record of three arrays
+abbrev pub tallies : List ℕ → List ℕ → List ℕ → Tallies
+tallies key packets bytes = record { key = key; packets = packets; bytes = bytes }
+
+-- A CLEAR RECORD: every place is unused, and every count is 0
+abbrev pub cleared : Tallies
+cleared = tallies (replicate 65 4294967295) (replicate 65 0) (replicate 65 0)
+
+-- THE DIFFERENCE of two readings of a count, the later less the earlier, starting again at zero likewise
+unfoldable pub difference : ℕ → ℕ → ℕ
+difference earlier later = (later + (2 ^ 32 - earlier)) % 2 ^ 32
