@@ -3,7 +3,7 @@
 prover refuses.
 
     tests/mutants.py [--crate NAME ..] [--most N] [--seed N] [--only ID ..]
-                     [--list] [--seconds N] [--limit N] [--cut N]
+                     [--list] [--seconds N] [--limit N] [--cut N] [--jobs N]
 
 A mutant is one small change to a crate's code (mutate.py says which): another
 comparison, sign, constant, variable, callee or order of arguments, or a
@@ -16,7 +16,8 @@ that does the same.
 spread over its functions, with more from public calls; the seed chooses.
 --only checks those that are named, --list names them and checks none.
 --seconds ends the run when so much time is used, --limit is the time for one
-mutant, --cut the length at which an error is cut. A program is left out unless
+mutant, --cut the length at which an error is cut, --jobs how many crates are
+worked on at once (default: one for each processor). A program is left out unless
 it is named: what it prints is held to a file, not to a contract.
 
 Outcomes:
@@ -43,6 +44,7 @@ import sys
 import tempfile
 import time
 from collections import Counter
+from concurrent.futures import ThreadPoolExecutor
 from hashlib import sha256
 from pathlib import Path
 
@@ -228,11 +230,10 @@ class Run:
 
     def crate(self, crate, mutants):
         old = self.kit.sources[crate].text
-        self.counts[crate] = Counter()
         with Bench(self.kit, crate) as bench:
             status, out = bench.check(old)
             if status != 0:
-                sys.exit('%s itself is not proved (run rt check first): %s'
+                raise SystemExit('%s itself is not proved (run rt check first): %s'
                          % (crate, outcome(status, out)[1]))
             for m in mutants:
                 if self.late():
@@ -285,14 +286,17 @@ def main():
     parser.add_argument('--cut', type=int, default=160)
     parser.add_argument('--list', action='store_true')
     parser.add_argument('--only', nargs='+', default=[])
+    parser.add_argument('--jobs', type=int, default=os.cpu_count() or 1)
     run = Run(parser.parse_args())
-    for crate, mutants in run.plan():
-        if run.options.list:
-            print('\n'.join('%s (%s, %s)' % (m.id, m.function, m.kind) for m in mutants))
-        elif not run.late():
-            run.crate(crate, mutants)
+    plan = run.plan()
     if run.options.list:
+        for crate, mutants in plan:
+            print('\n'.join('%s (%s, %s)' % (m.id, m.function, m.kind) for m in mutants))
         return 0
+    run.counts = {crate: Counter() for crate, _ in plan}
+    with ThreadPoolExecutor(run.options.jobs) as pool:
+        for done in [pool.submit(run.crate, crate, mutants) for crate, mutants in plan]:
+            done.result()
     return run.report()
 
 
