@@ -6,13 +6,14 @@ use mathlib.Core.Bool.{Bool, cond}
 use mathlib.Core.List.{List, [], _∷_}
 use Prim.Native.Nat.{ℕ, _+_, _*_, _≤_, _<_}
 use lib.Dec.{eqb}
+use native.Mathlib.Omega.{arith}
 use lib.ListN.{length, take}
 use borrow.Author.Tests.{eqb-true, eqb-false}
 use Rattle.model.specs.Table.{Table, winnerOf, readsOf, cellsOf}
 use Rattle.model.specs.Ipv4.{ipv4}
 use Rattle.model.proofs.Tests.{by-test}
 use Rattle.model.proofs.Limits.{same-set}
-use Rattle.model.proofs.Decide.{reads-each, reads-most}
+use Rattle.model.proofs.Decide.{reads-each, reads-most, reads-tight}
 use Rattle.header.specs.declared.Packet.{Packet}
 use Rattle.header.specs.declared.Header.{Header}
 use Rattle.header.specs.declared.Header.the-variants.{Values, Unreadable}
@@ -123,4 +124,5 @@ demand3 =
       count-tally = λ ws h bytes b p e t q. rw (tally-done ws bytes t q) (packet-count ws h bytes b p e);
       most-each = count-each;
       most = λ ws h p t. rw (ap (λ (f : Found). f .reads) (lookup-says ws p h t)) (reads-most ipv4 (tableOf ipv4 ws) (valuesOf (Values p)) (tops-right p t));
+      tight = λ ws h p t. rw (ap (λ (f : Found). f .reads) (lookup-says ws p h t)) (omega (arith, reads-tight ipv4 (tableOf ipv4 ws) (valuesOf (Values p)) (tops-right p t)));
     }

@@ -93,3 +93,5 @@ pub record Demand3 : Type 0 where
   -- "With n rules besides the default it is at most 2 × n + 1 in each field", and so in all: a bound for the sheet
   pub most-each : (ws : List ℕ) (h : Passes ws) (p : Packet) (t : WithinTops p) → (i : ℕ) → i < 5 → 1 + length (count ws h p t .ends i) ≤ 2 * length (rulesIn ws) + 1
   pub most : (ws : List ℕ) → Passes ws → (p : Packet) → WithinTops p → lookup ws p .reads ≤ 5 * (2 * length (rulesIn ws) + 1)
+  -- and a tighter one: a rule that is kept adds at most one end in a field, and one that is dropped at most two, once
+  pub tight : (ws : List ℕ) → Passes ws → (p : Packet) → WithinTops p → lookup ws p .reads ≤ 6 * length (rulesIn ws) + 5

@@ -1,4 +1,4 @@
--- The decision over a table, for a packet within the tops: the walk of its tree finds the winner and reads as many cells as the rules say, at most 2 × n + 1 in each field; the winner is a rule of the table, or the default, that holds the packet, and none of a lesser number does. And the default alone takes one cell for each field.
+-- The decision over a table, for a packet within the tops: the walk of its tree finds the winner and reads as many cells as the rules say, at most 2 × n + 1 in each field, and k + (k + 1) × n over all k fields; the winner is a rule of the table, or the default, that holds the packet, and none of a lesser number does. And the default alone takes one cell for each field.
 -- Assumes nothing.
 use mathlib.Core.Path.{_≡_, refl, sym, ap, subst, _∙_}
 use mathlib.Core.Logic.{inl}
@@ -18,7 +18,7 @@ use Rattle.model.proofs.Tests.{and-left, and-right}
 use Rattle.model.proofs.Keep.{in-right}
 use Rattle.model.proofs.Walk.{walk-finds, walk-reads, full, full-holds}
 use Rattle.model.proofs.Sets.{winner-in as in-rules, winner-holds as holds-packet, winner-least as least-of}
-use Rattle.model.proofs.Bound.{Lowest, each-bound, sum-bound}
+use Rattle.model.proofs.Bound.{Lowest, each-bound, sum-bound, tight-bound}
 use Rattle.model.proofs.Fewer.{alone}
 
 length-fields : (i : ℕ) (ts : List ℕ) → length (fieldsFrom i ts) ≡ length ts
@@ -90,3 +90,9 @@ module _ (k : Kind) (t : Table) (p : List ℕ) (h : packetRight k p ≡ true) wh
   pub reads-most : readsOf k t p ≤ length (k .tops) * (2 * length (t .rules) + 1)
   reads-most = subst (λ (n : ℕ). readsOf k t p ≤ n * (2 * length (t .rules) + 1)) (length-fields 0 (k .tops))
       (sum-bound (fields k) p (length (t .rules)) (everyRule k t) length-every (defaultRule k (t .action)) default-in (default-holds k (t .action) p h) (default-lowest k (t .action) 0 (k .tops)))
+
+
+  -- over all fields together, fewer: with five at most 6 × n + 5
+  pub reads-tight : readsOf k t p ≤ length (k .tops) + (length (k .tops) + 1) * length (t .rules)
+  reads-tight = subst (λ (n : ℕ). readsOf k t p ≤ n + (n + 1) * length (t .rules)) (length-fields 0 (k .tops))
+      (tight-bound (fields k) p (length (t .rules)) (everyRule k t) (length-append (t .rules) _) (defaultRule k (t .action)) default-in (default-holds k (t .action) p h) (default-lowest k (t .action) 0 (k .tops)))
