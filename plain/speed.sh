@@ -5,19 +5,21 @@
 #     sh plain/speed.sh plain        plain C in the library's place: what
 #                                    the measurement itself is good for
 #
-# ARCHIVE is the library for this machine's processor.  CC names the
-# compiler (cc), which compiles plain C with -O3; LIBS what else the archive
-# wants to be linked with.  Where valgrind is there the instructions of a
-# lookup are counted too.
+# Where ARCHIVE is for another processor than this machine's, or NATIVE is
+# set, what native.sh makes stands in its place: emulated, no figure would
+# mean a thing.  CC names the compiler (cc), which compiles plain C with -O3;
+# LIBS what else the archive wants to be linked with.  Where valgrind is there
+# the instructions of a lookup are counted too.
 program=speed flags=-falign-functions=64
 . "$(dirname "$0")/build.sh"
 
 machine() {
 	readelf -h "$1" 2>/dev/null | sed -n 's/.*Machine: *//p' | sort -u
 }
-if [ "$(machine "$archive")" != "$(machine "$dir/plain.o")" ]; then
-	echo "The archive is for another processor than this one ($(uname -m)): it would run emulated, where figures mean nothing. Nothing is measured."
-	exit 0
+if [ "$1" != plain ] && { [ "${NATIVE:-}" ] || [ "$(machine "$1")" != "$(machine "$dir/plain.o")" ]; }; then
+	sh "$here/native.sh" "$archive" "$dir/native.a"
+	archive=$dir/native.a
+	echo "Measured is the library's own LLVM module, compiled for this processor ($(uname -m))."
 fi
 
 # Where a function begins in a line of the cache is worth up to a fifth of the
@@ -59,6 +61,10 @@ for name in reamstork plain; do
 done | awk '
 	{ took[NR] = $1; lookups[NR] = $2; reads[NR] = $3 }
 	END {
+		if (NR != 8) {
+			print "  valgrind fails here: nothing is counted"
+			exit 1
+		}
 		for (i = 0; i < 2; i++) {
 			values[i] = took[1 + 5 * i] / lookups[1 + 5 * i]
 			packet[i] = took[2 + 5 * i] / lookups[2 + 5 * i]
