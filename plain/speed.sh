@@ -61,7 +61,7 @@ for name in reamstork plain; do
 done | awk '
 	{ took[NR] = $1; lookups[NR] = $2; reads[NR] = $3 }
 	END {
-		if (NR != 8) {
+		if (NR != 10) {
 			print "  valgrind fails here: nothing is counted"
 			exit 1
 		}
