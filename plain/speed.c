@@ -300,7 +300,7 @@ static void times(uint32_t n, uint32_t c, uint32_t budget, int overlap)
  */
 static int lookups(const char *name, const char *call, const char *which)
 {
-	int plain = strcmp(name, "plain") == 0, bytes = strcmp(call, "packet") == 0, counts = strcmp(call, "tally") == 0;
+	int plain = strcmp(name, "plain") == 0, bytes = strcmp(call, "packet") == 0, counts = strcmp(call, "tally") == 0, scans = strcmp(call, "scan") == 0;
 	int first = 0, past = PACKETS;
 	uint32_t reads[PACKETS], sum = 0;
 
@@ -321,6 +321,8 @@ static int lookups(const char *name, const char *call, const char *which)
 
 		if (counts)
 			sum += both[plain].tally(words, len, packets[i], sizeof packets[i], &tallies).reads;
+		else if (scans)
+			sum += both[plain].scan(records, rule_count, 1, v[0], v[1], v[2], v[3], v[4]).rule;
 		else if (bytes)
 			sum += both[plain].lookup_packet(words, len, packets[i], sizeof packets[i]).reads;
 		else
