@@ -1,4 +1,4 @@
--- The scan through a list of rule records: what it answers, and the steps by which it goes.
+-- "A lookup that runs through a lent list of rule records": what it answers, and the steps by which it goes. A record is any rule: "Rule records may hold any numbers".
 -- Assumes nothing: these are definitions.
 use mathlib.Core.Bool.{Bool, true, false, cond, not, _&&_, _||_}
 use mathlib.Core.List.{List, [], _∷_, map}
@@ -20,7 +20,7 @@ use Rattle.scan.specs.declared.Lead.{Lead}
 abbrev pub holdsPacket : Packet → Rule → Bool
 holdsPacket p r = holds (fields ipv4) (valuesOf (Values p)) r
 
--- of some rules "the holder of least number; with equal numbers the earlier wins"; d "with none". (Of a list, and of its first rule behind it once more, `least` is the first with the least number.)
+-- of some holders the one "of least number; with equal numbers the earlier wins"; d where there is none. (`least` takes a rule that stands behind the list: the first once more, which then changes nothing.)
 abbrev pub firstLeast : Rule → List Rule → Rule
 firstLeast d [] = d
 firstLeast d (r ∷ rs) = least numberOf r (r ∷ rs)
@@ -29,7 +29,7 @@ firstLeast d (r ∷ rs) = least numberOf r (r ∷ rs)
 abbrev pub decider : List Rule → ℕ → Packet → Rule
 decider rs a p = firstLeast (defaultRule ipv4 a) (keep (holdsPacket p) rs)
 
--- what is answered where a rule decides, and "A refusal gives 0 in every other number of its answer"
+-- what is answered where a rule decides: "It reports no reads"; and "A refusal gives 0 in every other number of its answer"
 abbrev pub named : Rule → Winner
 named r = record { answer = 0; rule = r .number; action = r .action }
 
