@@ -62,7 +62,7 @@ for name in reamstork plain; do
 done | awk '
 	{ took[NR] = $1; lookups[NR] = $2; reads[NR] = $3 }
 	END {
-		if (NR != 10) {
+		if (NR != 12) {
 			print "  valgrind fails here: nothing is counted"
 			exit 1
 		}
