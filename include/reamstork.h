@@ -40,16 +40,17 @@
  *
  *  - `words` points to at least `len` words of 32 bits, aligned as
  *    uint32_t is; `packet` points to at least `packet_len` bytes; `low`
- *    and `high` point to five words each; `tallies` points to a record.
- *    No pointer is null, not even with a length of 0.
+ *    and `high` point to five words each; `tallies` points to a record;
+ *    `records` points to at least `count` records.  No pointer is null, not
+ *    even with a length of 0.
  *  - A call that writes its words (start, start_with, insert, delete) has
  *    them to itself while it runs: no other thread, interrupt or device
  *    reads or writes them, and `low` and `high` do not lie within them.
  *    A call that is lent tallies has these to itself in the same way, and
  *    they lie neither within its words nor within its packet.
- *  - While any other call runs nobody writes its words or its packet, and
- *    the two do not overlap.  Any number of such calls may run at once
- *    over the same words.
+ *  - While any other call runs nobody writes its words, its packet or its
+ *    records, and the words and the packet do not overlap.  Any number of
+ *    such calls may run at once over the same words.
  *
  *
  * RULES
@@ -151,7 +152,7 @@ extern "C" {
 #define REAMSTORK_BAD_SIZE         8   /* start: c outside, or too few words  */
 #define REAMSTORK_BAD_STORE        9   /* store fails the check               */
 #define REAMSTORK_BAD_PREFIX       10  /* length above 32, or address askew   */
-#define REAMSTORK_BAD_VALUE        11  /* lookup: a value above its top       */
+#define REAMSTORK_BAD_VALUE        11  /* lookup, scan: a value above its top */
 /* 12 is an answer of the bench program alone: capture not accepted. */
 #define REAMSTORK_NO_PLACE         13  /* tally: a new number finds no place  */
 
@@ -160,6 +161,8 @@ typedef struct { uint32_t answer, number, action, low[5], high[5]; } reamstork_r
 typedef struct { uint32_t answer, cells; } reamstork_count;
 typedef struct { uint32_t answer, low, high; } reamstork_range;
 typedef struct { uint32_t key[65], packets[65], bytes[65]; } reamstork_tallies;
+typedef struct { uint32_t number, action, low[5], high[5]; } reamstork_record;
+typedef struct { uint32_t answer, rule, action; } reamstork_winner;
 
 /*
  * START A STORE
@@ -353,6 +356,28 @@ reamstork_found reamstork_lookup_packet_tally(const uint32_t *words, size_t len,
  * between.  It never refuses.
  */
 uint32_t reamstork_tally_difference(uint32_t earlier, uint32_t later);
+
+/*
+ * LOOK UP FIVE VALUES IN A LIST OF RULES
+ *
+ * For whoever holds no store: runs through `count` records from the first.
+ *
+ *  11  protocol above 255, or a port above 65,535
+ *   0  done: number and action of the record with the least number among
+ *      those whose five ranges all hold the values; of several with that
+ *      number the first.  Where none holds them, 65,535 and default_action
+ *
+ * in this order.  Changes no record, and reports no reads.
+ *
+ * A record may hold any numbers: its own may be above 65,534, or stand in
+ * the list more than once, a high end may be above its top, and a range
+ * whose low end is above its high end holds nothing.
+ *
+ * For the rules of a store that passes the check, in any order, and with
+ * the action of its default, answer, rule and action are those of
+ * reamstork_lookup, for all values.
+ */
+reamstork_winner reamstork_scan(const reamstork_record *records, size_t count, uint32_t default_action, uint32_t destination, uint32_t source, uint32_t protocol, uint32_t destination_port, uint32_t source_port);
 
 /*
  * TURN AN ADDRESS PREFIX INTO A RANGE

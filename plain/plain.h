@@ -25,6 +25,7 @@ reamstork_found plain_lookup_packet(const uint32_t *words, size_t len, const uin
 void plain_tallies_clear(reamstork_tallies *tallies);
 reamstork_found plain_lookup_packet_tally(const uint32_t *words, size_t len, const uint8_t *packet, size_t packet_len, reamstork_tallies *tallies);
 uint32_t plain_tally_difference(uint32_t earlier, uint32_t later);
+reamstork_winner plain_scan(const reamstork_record *records, size_t count, uint32_t default_action, uint32_t destination, uint32_t source, uint32_t protocol, uint32_t destination_port, uint32_t source_port);
 reamstork_range plain_prefix(uint32_t address, uint32_t length);
 
 #endif

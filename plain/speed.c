@@ -26,16 +26,18 @@ struct library {
 	reamstork_found (*lookup)(const uint32_t *, size_t, uint32_t, uint32_t, uint32_t, uint32_t, uint32_t);
 	reamstork_found (*lookup_packet)(const uint32_t *, size_t, const uint8_t *, size_t);
 	reamstork_found (*tally)(const uint32_t *, size_t, const uint8_t *, size_t, reamstork_tallies *);
+	reamstork_winner (*scan)(const reamstork_record *, size_t, uint32_t, uint32_t, uint32_t, uint32_t, uint32_t, uint32_t);
 };
 
 static const struct library both[2] = {
-	{ reamstork_insert, reamstork_delete, reamstork_check, reamstork_lookup, reamstork_lookup_packet, reamstork_lookup_packet_tally },
-	{ plain_insert, plain_delete, plain_check, plain_lookup, plain_lookup_packet, plain_lookup_packet_tally },
+	{ reamstork_insert, reamstork_delete, reamstork_check, reamstork_lookup, reamstork_lookup_packet, reamstork_lookup_packet_tally, reamstork_scan },
+	{ plain_insert, plain_delete, plain_check, plain_lookup, plain_lookup_packet, plain_lookup_packet_tally, plain_scan },
 };
 
 static _Alignas(64) uint32_t words[REAMSTORK_WORDS(65536)];
 static _Alignas(64) uint32_t tiny[REAMSTORK_WORDS(5)];
 static struct rule rules[64];
+static _Alignas(64) reamstork_record records[64];
 static uint32_t values[PACKETS][5];
 static uint8_t packets[PACKETS][28];
 static reamstork_tallies tallies;
@@ -91,6 +93,21 @@ static void by_tally(const struct library *l, double *took)
 
 	for (int i = 0; i < PACKETS; i++)
 		sum += l->tally(words, len, packets[i], sizeof packets[i], &tallies).rule;
+	took[0] = (now() - from) / PACKETS;
+	sink = sum;
+}
+
+/* The scan through the table's rules, in the order in which they were drawn. */
+static void by_scan(const struct library *l, double *took)
+{
+	uint32_t sum = 0;
+	double from = now();
+
+	for (int i = 0; i < PACKETS; i++) {
+		const uint32_t *v = values[i];
+
+		sum += l->scan(records, rule_count, 1, v[0], v[1], v[2], v[3], v[4]).rule;
+	}
 	took[0] = (now() - from) / PACKETS;
 	sink = sum;
 }
@@ -203,6 +220,12 @@ static void draw_sample(uint32_t n, uint32_t c, uint32_t budget, int overlap)
 	len = REAMSTORK_WORDS(c);
 	rule_count = n;
 	draw_table(words, len, c, rules, n, budget, overlap);
+	for (uint32_t i = 0; i < n; i++) {
+		records[i].number = rules[i].number;
+		records[i].action = rules[i].action;
+		memcpy(records[i].low, rules[i].low, sizeof records[i].low);
+		memcpy(records[i].high, rules[i].high, sizeof records[i].high);
+	}
 	for (int i = 0; i < PACKETS; i++) {
 		draw_values(values[i], rules, n);
 		write_packet(packets[i], values[i]);
@@ -219,6 +242,12 @@ static void same_answer(reamstork_found a, reamstork_found b)
 		fail("the answers differ");
 }
 
+static void same_winner(reamstork_found a, reamstork_winner b)
+{
+	if (b.answer != 0 || a.rule != b.rule || a.action != b.action)
+		fail("the scan answers otherwise");
+}
+
 /* Says what the sample is, and that both libraries answer alike. */
 static void describe(uint32_t n, uint32_t c)
 {
@@ -232,6 +261,8 @@ static void describe(uint32_t n, uint32_t c)
 		same_answer(f, reamstork_lookup(words, len, v[0], v[1], v[2], v[3], v[4]));
 		same_answer(f, reamstork_lookup_packet(words, len, packets[i], sizeof packets[i]));
 		same_answer(f, plain_lookup_packet(words, len, packets[i], sizeof packets[i]));
+		same_winner(f, reamstork_scan(records, n, 1, v[0], v[1], v[2], v[3], v[4]));
+		same_winner(f, plain_scan(records, n, 1, v[0], v[1], v[2], v[3], v[4]));
 		reads += f.reads;
 		if (f.reads < least)
 			least = f.reads;
@@ -243,7 +274,7 @@ static void describe(uint32_t n, uint32_t c)
 
 static void times(uint32_t n, uint32_t c, uint32_t budget, int overlap)
 {
-	static const char *const names[] = { "lookup by values", "lookup by packet", "lookup with tallies", "lookup, cold caches", "lookup, cold words only", "check" };
+	static const char *const names[] = { "lookup by values", "lookup by packet", "lookup with tallies", "lookup, cold caches", "lookup, cold words only", "check", "scan" };
 	static const char *const edit_names[] = { "insert", "delete" };
 
 	draw_sample(n, c, budget, overlap);
@@ -255,6 +286,7 @@ static void times(uint32_t n, uint32_t c, uint32_t budget, int overlap)
 	measure(cold, 1, &names[3]);
 	measure(cold_words, 1, &names[4]);
 	measure(check, 1, &names[5]);
+	measure(by_scan, 1, &names[6]);
 	measure(edits, 2, edit_names);
 	printf("\n");
 	fflush(stdout);
@@ -268,7 +300,7 @@ static void times(uint32_t n, uint32_t c, uint32_t budget, int overlap)
  */
 static int lookups(const char *name, const char *call, const char *which)
 {
-	int plain = strcmp(name, "plain") == 0, bytes = strcmp(call, "packet") == 0, counts = strcmp(call, "tally") == 0;
+	int plain = strcmp(name, "plain") == 0, bytes = strcmp(call, "packet") == 0, counts = strcmp(call, "tally") == 0, scans = strcmp(call, "scan") == 0;
 	int first = 0, past = PACKETS;
 	uint32_t reads[PACKETS], sum = 0;
 
@@ -289,6 +321,8 @@ static int lookups(const char *name, const char *call, const char *which)
 
 		if (counts)
 			sum += both[plain].tally(words, len, packets[i], sizeof packets[i], &tallies).reads;
+		else if (scans)
+			sum += both[plain].scan(records, rule_count, 1, v[0], v[1], v[2], v[3], v[4]).rule;
 		else if (bytes)
 			sum += both[plain].lookup_packet(words, len, packets[i], sizeof packets[i]).reads;
 		else

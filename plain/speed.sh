@@ -56,26 +56,29 @@ for name in reamstork plain; do
 	count $name values all ${name}_lookup
 	count $name packet all ${name}_lookup_packet
 	count $name tally all ${name}_lookup_packet_tally
+	count $name scan all ${name}_scan
 	count $name values least ${name}_lookup
 	count $name values most ${name}_lookup
 done | awk '
 	{ took[NR] = $1; lookups[NR] = $2; reads[NR] = $3 }
 	END {
-		if (NR != 10) {
+		if (NR != 12) {
 			print "  valgrind fails here: nothing is counted"
 			exit 1
 		}
 		for (i = 0; i < 2; i++) {
-			values[i] = took[1 + 5 * i] / lookups[1 + 5 * i]
-			packet[i] = took[2 + 5 * i] / lookups[2 + 5 * i]
-			tally[i] = took[3 + 5 * i] / lookups[3 + 5 * i]
-			read[i] = (took[5 + 5 * i] - took[4 + 5 * i]) / (reads[5 + 5 * i] - reads[4 + 5 * i])
-			fixed[i] = took[4 + 5 * i] - read[i] * reads[4 + 5 * i]
+			values[i] = took[1 + 6 * i] / lookups[1 + 6 * i]
+			packet[i] = took[2 + 6 * i] / lookups[2 + 6 * i]
+			tally[i] = took[3 + 6 * i] / lookups[3 + 6 * i]
+			scan[i] = took[4 + 6 * i] / lookups[4 + 6 * i]
+			read[i] = (took[6 + 6 * i] - took[5 + 6 * i]) / (reads[6 + 6 * i] - reads[5 + 6 * i])
+			fixed[i] = took[5 + 6 * i] - read[i] * reads[5 + 6 * i]
 		}
 		printf "  %-24s %12s    %12s    %8s\n", "", "library", "plain C", "ratio"
 		row("lookup by values, mean", values)
 		row("lookup by packet, mean", packet)
 		row("with tallies, mean", tally)
+		row("scan of 60 rules, mean", scan)
 		row("one read more", read)
 		row("a lookup beside reads", fixed)
 	}

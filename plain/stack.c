@@ -125,6 +125,13 @@ static void tallies_clear(void)
 	reamstork_tallies_clear(&tallies);
 }
 
+static void scan(void)
+{
+	static reamstork_record records[64];
+
+	answer |= reamstork_scan(records, 64, 1, values[0], values[1], values[2], values[3], values[4]).answer;
+}
+
 static void prefix(void)
 {
 	answer |= reamstork_prefix(0x0a000000, 24).answer;
@@ -171,6 +178,7 @@ int main(void)
 	say("reamstork_lookup_packet", used(lookup_packet) - base);
 	say("reamstork_lookup_packet_tally", used(lookup_packet_tally) - base);
 	say("reamstork_tallies_clear", used(tallies_clear) - base);
+	say("reamstork_scan", used(scan) - base);
 	say("reamstork_prefix", used(prefix) - base);
 	if (answer != 0) {
 		printf("a call was refused: %u\n", answer);

@@ -14,16 +14,16 @@ from collections import Counter
 
 RESET, MAKE, LEND, SET, GET, DIGEST, SAME, COPY = range(8)
 START, START_WITH, INSERT, DELETE, CHECK, READ, CELLS, LOOKUP, PACKET, PREFIX, SCAN = range(16, 27)
-TALLY, CLEAR, DIFFERENCE = range(32, 35)
+TALLY, CLEAR, DIFFERENCE, RECORDS = range(32, 36)
 RECORD = 3 * 65
 NAMES = {RESET: 'reset', MAKE: 'make', LEND: 'lend', SET: 'set', GET: 'get', DIGEST: 'digest',
          SAME: 'same', COPY: 'copy', START: 'start', START_WITH: 'start_with', INSERT: 'insert',
          DELETE: 'delete', CHECK: 'check', READ: 'read', CELLS: 'cells', LOOKUP: 'lookup',
          PACKET: 'lookup_packet', PREFIX: 'prefix', SCAN: 'scan', TALLY: 'lookup_packet_tally',
-         CLEAR: 'tallies_clear', DIFFERENCE: 'tally_difference'}
+         CLEAR: 'tallies_clear', DIFFERENCE: 'tally_difference', RECORDS: 'scan of records'}
 SIZES = {RESET: 0, MAKE: 0, LEND: 0, SET: 0, DIGEST: 2, SAME: 1, COPY: 0, START: 1, START_WITH: 1,
          INSERT: 1, DELETE: 1, CHECK: 1, READ: 13, CELLS: 2, LOOKUP: 4, PACKET: 4, PREFIX: 3,
-         SCAN: 66, TALLY: 4 + RECORD, CLEAR: RECORD, DIFFERENCE: 1}
+         SCAN: 66, TALLY: 4 + RECORD, CLEAR: RECORD, DIFFERENCE: 1, RECORDS: 3}
 EDITS = (MAKE, LEND, SET, COPY, START, START_WITH, INSERT, DELETE)
 GUARDED, END_AT_WALL, FRONT_AT_WALL = range(3)
 NO_DIFFERENCE = 0xFFFFFFFF
@@ -35,7 +35,8 @@ FAULTS = {1: 'a guard word in front of the store was written',
           5: 'an accepted edit changed a word behind its store',
           6: 'the bytes of a packet were changed',
           7: 'the ends of a rule were changed',
-          8: 'a guard word in front of a tally record was written'}
+          8: 'a guard word in front of a tally record was written',
+          9: 'the records of a list were changed'}
 
 HEAD = struct.Struct('<7I')
 PACKERS = {n: struct.Struct('<%dI' % n) for n in [*range(1, 68), RECORD, 4 + RECORD]}
@@ -196,6 +197,13 @@ class Talk:
     def scan(self, store, first, last, want=None):
         self.queue_command(SCAN, (store, first, last), want)
 
+    def records(self, records, action, values, want=None):
+        words = array('I')
+        for record in records:
+            words.extend((record.number, record.action) + record.low + record.high)
+        self.queue_command(RECORDS, (action,) + tuple(values) + (len(records),), want,
+                           tail=words.tobytes())
+
     # -- sending --
 
     def flush(self):
@@ -221,7 +229,7 @@ class Talk:
             got = PACKERS[size].unpack_from(results, at) if size in PACKERS else array(
                 'I', results[at:at + 4 * size])
             at += 4 * size
-            if START <= op <= PREFIX or op == TALLY:
+            if START <= op <= PREFIX or op in (TALLY, RECORDS):
                 self.answers[got[0]] += 1
             if want is None:
                 answers.append(got)

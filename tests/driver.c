@@ -11,11 +11,12 @@
      write and after each refused edit;
    - the words behind the lent slice, and those behind 1,024 + 8 x c inside
      it, after each accepted start or edit;
-   - the bytes of a packet and the ends of a rule, lent for reading.
+   - the bytes of a packet, the ends of a rule and the records of a list, lent
+     for reading.
    A store can be laid against memory that can't be read at all, at its
-   front or at its end, and a packet and a tally record always end against
-   such memory, so that a read outside them ends the program. In front of a
-   tally record stand guard words.
+   front or at its end, and a packet, a list of records and a tally record
+   always end against such memory, so that a read outside them ends the
+   program. In front of a tally record stand guard words.
 
    A batch is one number, its length in words, and then that many words. All
    numbers are 32 bits, least significant byte first. The answer to a batch is
@@ -43,7 +44,7 @@ enum {
   RESET = 0, MAKE = 1, LEND = 2, SET = 3, GET = 4, DIGEST = 5, SAME = 6, COPY = 7,
   START = 16, START_WITH = 17, INSERT = 18, DELETE = 19, CHECK = 20, READ = 21,
   CELLS = 22, LOOKUP = 23, PACKET = 24, PREFIX = 25, SCAN = 26,
-  TALLY = 32, CLEAR = 33, DIFFERENCE = 34
+  TALLY = 32, CLEAR = 33, DIFFERENCE = 34, RECORDS = 35
 };
 
 /* How a store lies in memory. */
@@ -52,7 +53,8 @@ enum { GUARDED = 0, END_AT_WALL = 1, FRONT_AT_WALL = 2 };
 /* Kinds of fault. */
 enum {
   GUARD_IN_FRONT = 1, GUARD_BEHIND = 2, READER_WROTE = 3, REFUSED_EDIT_WROTE = 4,
-  WROTE_BEHIND = 5, PACKET_WRITTEN = 6, ENDS_WRITTEN = 7, GUARD_OF_RECORD = 8
+  WROTE_BEHIND = 5, PACKET_WRITTEN = 6, ENDS_WRITTEN = 7, GUARD_OF_RECORD = 8,
+  RECORDS_WRITTEN = 9
 };
 
 struct store {
@@ -378,6 +380,22 @@ static void call_difference(void) {
   calls++;
 }
 
+/* A scan through a list of records, 12 words each, which ends where the packets end. */
+static void call_records(void) {
+  uint32_t action = next();
+  const uint32_t *v = next_many(5);
+  size_t count = next(), size = count * sizeof(reamstork_record);
+  if (count > 2048) stop("too many records");
+  const uint32_t *numbers = next_many(12 * count);
+  void *records = packet_end - size;
+  memcpy(records, numbers, size);
+  reamstork_winner winner = reamstork_scan(records, count, action, v[0], v[1], v[2], v[3], v[4]);
+  uint32_t *out = give(3);
+  out[0] = winner.answer, out[1] = winner.rule, out[2] = winner.action;
+  if (memcmp(records, numbers, size)) fault(RECORDS_WRITTEN, NULL, 0);
+  calls++;
+}
+
 /* ---- batches ---- */
 
 static int take(void *into, size_t size) {
@@ -409,6 +427,7 @@ static void run_batch(void) {
     else if (op == PREFIX) call_prefix();
     else if (op == CLEAR) call_clear();
     else if (op == DIFFERENCE) call_difference();
+    else if (op == RECORDS) call_records();
     else if ((op >= CHECK && op <= SCAN) || op == TALLY) look(op);
     else stop("no such command");
   }

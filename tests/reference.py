@@ -200,6 +200,23 @@ class Tally:
                 place[0] = key
 
 
+# ---- a list of records, with no store -----------------------------------
+
+def scan(records, action, values):
+    """(answer, rule, action): the holder of least number, of equal numbers the
+    earlier one, and the default where there is none."""
+    if any(value > top for value, top in zip(values, TOPS)):
+        return (ABOVE_TOP, 0, 0)
+    holders = [record for record in records
+               if all(low <= value <= high
+                      for low, value, high in zip(record.low, values, record.high))]
+    if not holders:
+        return (DONE, DEFAULT, action)
+    least = min(record.number for record in holders)
+    first = next(record for record in holders if record.number == least)
+    return (DONE, first.number, first.action)
+
+
 # ---- headers, prefixes, captures ----------------------------------------
 
 def read_header(packet):

@@ -9,5 +9,7 @@ pub mod Demand1
 pub mod Demand2
 pub mod Demand3
 pub mod Check
+pub mod Named
+pub mod Scan
 pub mod Bench
 pub mod Shown

@@ -6,12 +6,14 @@ use Rattle.demands.specs.Demand3.{Demand3}
 use Rattle.demands.specs.Check.{Check}
 use Rattle.demands.specs.Bench.{Starred}
 use Rattle.demands.specs.Tally.{Tallied}
+use Rattle.demands.specs.Scan.{Scan}
 use Rattle.demands.proofs.Demand1.{demand1}
 use Rattle.demands.proofs.Demand2.{demand2}
 use Rattle.demands.proofs.Demand3.{demand3}
 use Rattle.demands.proofs.Check.{check}
 use Rattle.demands.proofs.Bench.{bench}
 use Rattle.demands.proofs.Tally.{tallied}
+use Rattle.demands.proofs.Scan.{scanned}
 
-pub shown : Demand1 × Demand2 × Demand3 × Check × Starred × Tallied
-shown = (demand1, demand2, demand3, check, bench, tallied)
+pub shown : Demand1 × Demand2 × Demand3 × Check × Starred × Tallied × Scan
+shown = (demand1, demand2, demand3, check, bench, tallied, scanned)

@@ -45,7 +45,7 @@ module _ (ws : List ℕ) (p : Packet) where
   unfolding lookupValues
   lookup-within t = simp (tops-right p t)
 
-  right-tops : packetRight ipv4 (valuesOf (Values p)) ≡ true → WithinTops p
+  pub right-tops : packetRight ipv4 (valuesOf (Values p)) ≡ true → WithinTops p
   right-tops e =
       let a = and-right (leb (p .destination) 4294967295) _ e in
       let b = and-right (leb (p .source) 4294967295) _ a in

@@ -1,4 +1,4 @@
--- To be read in this order: what the demands speak of, the three demands, what the store check says, document 01's starred list, and the tallies of request P1.
+-- To be read in this order: what the demands speak of, the three demands, what the store check says, document 01's starred list, the tallies of request P1, and the scan of request P2.
 pub mod Calls
 pub mod Demand1
 pub mod Demand2
@@ -6,3 +6,4 @@ pub mod Demand3
 pub mod Check
 pub mod Bench
 pub mod Tally
+pub mod Scan

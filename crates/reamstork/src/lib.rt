@@ -5,9 +5,11 @@ ghost use Rattle.prefix.specs.Prefix.{rangeOf};
 ghost use Rattle.stored.specs.Store.{startAnswer, startWords, insertSays, insertWords, deleteSays, deleteWords, readSays, readGives, cellsSays, cellsGives};
 ghost use Rattle.lookup.specs.Walk.{lookupValues, lookupPacket};
 ghost use Rattle.tally.specs.Tally.{tallyAnswer, talliesLeft, cleared, difference};
+ghost use Rattle.scan.specs.Scan.{scanValues};
 ghost use Rattle.reamstork.specs.Face.{ruleOf, ruleRead, checkSays};
 use lookup::Found;
 use prefix::Range;
+use scan::Winner;
 use store::Count;
 use table::Rule;
 use tally::Tallies;
@@ -128,6 +130,30 @@ pub extern "C" fn reamstork_lookup_packet(words: &[u32], packet: &[u8]) -> Found
     ensures { λ r. ⌜ r ≡ lookupPacket (now (words .entry)) (now (packet .entry)) ⌝ }
 {
     lookup::lookup_packet(words, packet)
+}
+
+// Looks five values up in a list of rule records, with no store.
+#[no_mangle]
+pub extern "C" fn reamstork_scan(
+    records: &[Rule],
+    default_action: u32,
+    destination: u32,
+    source: u32,
+    protocol: u32,
+    destination_port: u32,
+    source_port: u32,
+) -> Winner
+    ensures { λ r. ⌜ r ≡ scanValues (now (records .entry)) «default_action» destination source protocol «destination_port» «source_port» ⌝ }
+{
+    scan::scan(
+        records,
+        default_action,
+        destination,
+        source,
+        protocol,
+        destination_port,
+        source_port,
+    )
 }
 
 // Turns an address prefix into a range.

@@ -12,6 +12,7 @@ ghost use Rattle.rows.specs.Rows.{numberOf, actionOf};
 ghost use Rattle.table.specs.Rows.{kindOf, given, rowWord, rowsWord, rowsText, ruleIn, tableIn, places as placesOf, ahead, putWord, takeWord, Says, Right, Zeros};
 
 // A rule: five low ends and five high ends besides its number and its action.
+#[repr(C)]
 pub struct Rule {
     pub number: u32,
     pub action: u32,

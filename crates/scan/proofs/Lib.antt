@@ -1,0 +1,4 @@
+pub mod Steps
+pub mod Least
+pub mod Through
+pub mod Passed

@@ -1,0 +1,103 @@
+-- The steps of the scan, as the code takes them: what the definitions say at each way on.
+-- Assumes nothing.
+use mathlib.Core.Path.{_≡_, refl, sym, _∙_}
+use mathlib.Core.Bool.{Bool, true, false, not, _&&_}
+use Prim.Native.Nat.{ℕ, _≤_, _<_}
+use lib.Dec.{leb}
+use lib.ListN.{getD}
+use borrow.Author.Tests.{le-leb, lt-leb, not-true, not-false}
+use Rattle.model.specs.Table.{packetRight}
+use Rattle.model.specs.Ipv4.{ipv4}
+use Rattle.header.specs.declared.Packet.{Packet}
+use Rattle.header.specs.declared.Header.the-variants.{Values}
+use Rattle.header.specs.Header.{valuesOf}
+use Rattle.table.specs.declared.Rule.{Rule as Given}
+use Rattle.table.specs.Rows.{given}
+use Rattle.model.specs.Lists.{upTo}
+use Rattle.scan.specs.declared.Lead.{Lead}
+use Rattle.scan.specs.Scan.{holdsPacket, refused, precedesLead, stepped, ended}
+
+-- where the code found x of the test a, and `!x` came out so
+pub no : {a x : Bool} → x ≡ a → not x ≡ true → a ≡ false
+no {x = x} e h = sym e ∙ not-true x h
+
+pub yes : {a x : Bool} → x ≡ a → not x ≡ false → a ≡ true
+yes {x = x} e h = sym e ∙ not-false x h
+
+alone : (a : Bool) → a ≡ (a && true)
+alone true = refl
+alone false = refl
+
+-- A RANGE
+module _ (l v h : ℕ) where
+  pub below : v < l → false ≡ (leb l v && leb v h)
+  below b = rw (lt-leb l v b)
+
+  pub not-below : l ≤ v → leb v h ≡ (leb l v && leb v h)
+  not-below b = rw (le-leb l v b)
+
+-- THE RANGES of a record, in the order of the fields
+module _ (p : Packet) (r : Given) where
+  abbrev Range : ℕ → ℕ → Bool
+  Range i v = leb (getD (r .low) i 0) v && leb v (getD (r .high) i 0)
+
+  abbrev Held : Bool → Type 0
+  Held b = b ≡ holdsPacket p (given r)
+
+  pub out-1 : Range 0 (p .destination) ≡ false → Held false
+  unfolding upTo
+  out-1 a = rw a
+
+  pub out-2 : Range 0 (p .destination) ≡ true → Range 1 (p .source) ≡ false → Held false
+  unfolding upTo
+  out-2 a b = rw (a, b)
+
+  pub out-3 : Range 0 (p .destination) ≡ true → Range 1 (p .source) ≡ true → Range 2 (p .protocol) ≡ false → Held false
+  unfolding upTo
+  out-3 a b c = rw (a, b, c)
+
+  pub out-4 : Range 0 (p .destination) ≡ true → Range 1 (p .source) ≡ true → Range 2 (p .protocol) ≡ true → Range 3 (p .«destination_port») ≡ false → Held false
+  unfolding upTo
+  out-4 a b c d = rw (a, b, c, d)
+
+  pub last-5 : Range 0 (p .destination) ≡ true → Range 1 (p .source) ≡ true → Range 2 (p .protocol) ≡ true → Range 3 (p .«destination_port») ≡ true → Held (Range 4 (p .«source_port»))
+  unfolding upTo
+  last-5 a b c d = rw (a, b, c, d) (alone (Range 4 (p .«source_port»)))
+
+-- THE LEAD after a record more
+module _ (l : Lead) (r : Given) where
+  pub not-held : holdsPacket (l .packet) (given r) ≡ false → l ≡ stepped l r
+  unfolding stepped
+  not-held h = rw h
+
+  pub not-before : holdsPacket (l .packet) (given r) ≡ true → precedesLead (r .number) l ≡ false → l ≡ stepped l r
+  unfolding stepped
+  not-before h b = rw (h, b)
+
+  pub leads : holdsPacket (l .packet) (given r) ≡ true → precedesLead (r .number) l ≡ true → record { packet = l .packet; found = true; number = r .number; action = r .action } ≡ stepped l r
+  unfolding stepped
+  leads h b = rw (h, b)
+
+-- THE TOPS of a packet whose addresses are words
+module _ (p : Packet) (d : p .destination ≤ 4294967295) (s : p .source ≤ 4294967295) where
+  abbrev Right : Bool → Type 0
+  Right b = b ≡ packetRight ipv4 (valuesOf (Values p))
+
+  pub protocol-high : 255 < p .protocol → Right false
+  protocol-high h = simp (le-leb _ _ d, le-leb _ _ s, lt-leb _ _ h)
+
+  pub to-port-high : p .protocol ≤ 255 → 65535 < p .«destination_port» → Right false
+  to-port-high a h = simp (le-leb _ _ d, le-leb _ _ s, le-leb _ _ a, lt-leb _ _ h)
+
+  pub from-port : p .protocol ≤ 255 → p .«destination_port» ≤ 65535 → Right (leb (p .«source_port») 65535)
+  from-port a b = simp (le-leb _ _ d, le-leb _ _ s, le-leb _ _ a, le-leb _ _ b) (alone (leb (p .«source_port») 65535))
+
+-- THE END
+module _ (l : Lead) where
+  pub end-refused : packetRight ipv4 (valuesOf (Values (l .packet))) ≡ false → refused 11 ≡ ended l
+  unfolding ended
+  end-refused h = rw h
+
+  pub end-named : packetRight ipv4 (valuesOf (Values (l .packet))) ≡ true → record { answer = 0; rule = l .number; action = l .action } ≡ ended l
+  unfolding ended
+  end-named h = rw h
