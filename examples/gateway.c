@@ -2,7 +2,8 @@
  * gateway.c - the firmware's loop, in small
  *
  * Loads a table of rules into a static store, decides frames and counts
- * them by action.  No heap and no input: it prints gateway.expected.
+ * them by action and by rule.  No heap and no input: it prints
+ * gateway.expected.
  *
  *     cc -std=c11 -Iinclude examples/gateway.c libreamstork.a -o gateway
  */
@@ -48,6 +49,7 @@ static const struct {
 
 static uint32_t store[REAMSTORK_WORDS(1920)];
 static const size_t store_len = sizeof store / sizeof store[0];
+static reamstork_tallies tallies;
 
 static uint32_t load(size_t i)
 {
@@ -67,16 +69,17 @@ int main(void)
 
 	if (reamstork_start_with(store, store_len, 1920, FORWARD) != REAMSTORK_DONE)
 		return 1;
+	reamstork_tallies_clear(&tallies);
 	for (size_t i = 0; i < sizeof table / sizeof table[0]; i++)
 		printf("rule %" PRIu32 ": %" PRIu32 "\n", table[i].number, load(i));
 	printf("cells in use: %" PRIu32 "\n", reamstork_cells(store, store_len).cells);
 
 	for (size_t i = 0; i < sizeof frames / sizeof frames[0]; i++) {
-		reamstork_found f = reamstork_lookup_packet(store, store_len, frames[i].bytes, frames[i].len);
+		reamstork_found f = reamstork_lookup_packet_tally(store, store_len, frames[i].bytes, frames[i].len, &tallies);
 
 		if (f.answer == REAMSTORK_UNREADABLE)
 			unreadable++;
-		else if (f.answer == REAMSTORK_BAD_STORE || f.action >= ACTIONS)
+		else if (f.answer != REAMSTORK_DONE || f.action >= ACTIONS)
 			return 1;	/* the words were damaged: load them again */
 		else
 			counts[f.action]++;
@@ -86,6 +89,9 @@ int main(void)
 	}
 	for (int a = 0; a < ACTIONS; a++)
 		printf("%s: %" PRIu32 "\n", action_names[a], counts[a]);
+	for (int i = 0; i < REAMSTORK_PLACES; i++)
+		if (tallies.key[i] <= REAMSTORK_DEFAULT)
+			printf("rule %" PRIu32 ": %" PRIu32 " packets, %" PRIu32 " bytes\n", tallies.key[i], tallies.packets[i], tallies.bytes[i]);
 	printf("unreadable: %" PRIu32 "\nmost reads: %" PRIu32 "\n", unreadable, worst);
 	return 0;
 }
