@@ -4,7 +4,7 @@ PREFIX ?= /usr/local
 SECONDS_LONG ?= 3600
 ARCHIVE = target/staticlib/libreamstork.a
 
-.PHONY: help run test lib install example soak bench-speed bench-stack mutants clean kit tools
+.PHONY: help run test lib install example soak bench-speed bench-stack bench-place mutants clean kit tools
 
 help:
 	@echo 'make run [CAPTURE=file.pcap]   prove, build and run the bench program on a capture'
@@ -14,6 +14,7 @@ help:
 	@echo 'make example                   compile and run examples/gateway.c'
 	@echo 'make soak [SECONDS_LONG=3600]  the independent second program for as long as you like'
 	@echo 'make bench-speed, bench-stack  figures of docs/TIMING.md'
+	@echo 'make bench-place               what finding a new rule'"'"'s place costs, in instructions'
 	@echo 'make mutants                   small wrong changes, and whether the prover refuses them'
 
 # The one thing that is not installed from here: Rattle's kit, which has the prover, the compiler and the C library.
@@ -50,6 +51,9 @@ bench-speed: lib tools
 
 bench-stack: lib tools
 	@CC=tests/x86cc RUN=tests/x86 sh plain/stack.sh $(ARCHIVE)
+
+bench-place: lib tools
+	@sh plain/place.sh $(ARCHIVE)
 
 mutants: kit
 	@tests/mutants.py

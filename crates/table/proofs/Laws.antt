@@ -9,14 +9,14 @@ use native.Mathlib.Numerals.{add-one}
 use lib.Dec.{ltb, leb, eqb}
 use lib.ListN.{length, getD, take, drop, set, List·getD-eq-default, drop-of-length-le}
 use lib.Seq.{drop-cons, take-suc-set}
-use borrow.Author.Tests.{ltb-true, ltb-false, eq-eqb, ne-eqb, eqb-true, eqb-false, lt-ltb, le-ltb, le-leb, lt-leb}
+use borrow.Author.Tests.{ltb-true, ltb-false, eq-eqb, ne-eqb, eqb-true, eqb-false, le-leb, lt-leb}
 use Rattle.model.specs.Lists.{same, upTo}
 use Rattle.model.specs.Rules.{rangesRight}
 use Rattle.model.specs.Table.{Kind, Rule, Table, fieldsFrom, defaultRule, risingFrom, allRight, ruleRight}
 use Rattle.model.proofs.Tests.{by-test, never}
 use Rattle.model.proofs.UpTo.{length-upTo, getD-upTo, upTo-is, same-refl, same-false, same-true}
 use Rattle.rows.specs.Rows.{numberOf, actionOf, lowOf, highOf}
-use Rattle.table.specs.Rows.{kindOf, noRule, rowWord, placed, rowsWord, rowsText, ruleIn, tableIn, places, ahead, Says, Right, Zeros}
+use Rattle.table.specs.Rows.{kindOf, noRule, rowWord, placed, rowsWord, rowsText, ruleIn, tableIn, places, Says, Right, Zeros}
 
 -- the words of a rule's row
 pub row-number : (r : Rule) → rowWord r 0 ≡ r .number
@@ -229,13 +229,6 @@ module _ (k : Kind) (n : ℕ) (rows : List ℕ) (p x : ℕ) (h : p < n) (e : x �
 
   pub rising-on : (b : ℕ) → b ≤ x → x ≤ 65534 → risingFrom b (drop p (tableIn k n rows .rules)) ≡ risingFrom (x + 1) (drop (p + 1) (tableIn k n rows .rules))
   rising-on b l g = rising-is b ∙ rw (le-leb b x l, le-leb x 65534 g, add-one x, add-one p)
-
-  -- the place of a number
-  pub ahead-here : (y : ℕ) → y ≤ x → ahead y (drop p (tableIn k n rows .rules)) ≡ 0
-  ahead-here y l = rw (rules-from k n rows p h, e', le-ltb x y l)
-
-  pub ahead-on : (y : ℕ) → x < y → ahead y (drop p (tableIn k n rows .rules)) ≡ suc (ahead y (drop (p + 1) (tableIn k n rows .rules)))
-  ahead-on y l = rw (rules-from k n rows p h, e', lt-ltb x y l, add-one p)
 
 -- right ranges, a field at a time: f of them are done
 module _ (rows : List ℕ) (place : ℕ) (tops : List ℕ) where

@@ -199,17 +199,17 @@ pub fn all_right(rows: &[u32], n: u32, tops: &[u32]) -> bool
     true
 }
 
-// How many of the n rules stand before the place of the number x. It is looked for from the lowest number up.
+// How many of the n rules stand before the place of the number x. It is looked for from the highest number down, so that a number above all others is placed at the first look.
 pub fn before(rows: &[u32], n: u32, tops: &[u32], x: u32) -> u32
     requires { ⌜ (n ≤ 64) × (risingFrom 0 (tableIn (kindOf (now tops)) n (now rows) .rules) ≡ true) ⌝ }
     ensures { λ r. ⌜ (r ≡ ahead x (tableIn (kindOf (now (tops .entry))) n (now (rows .entry)) .rules)) × (r ≤ n) ⌝ }
 {
-    let mut p: u32 = 0;
-    while p < n {
-        if x <= number(rows, p + 1) {
+    let mut p = n;
+    while 0 < p {
+        if number(rows, p) < x {
             return p;
         }
-        p += 1;
+        p -= 1;
     }
     p
 }
