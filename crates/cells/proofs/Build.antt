@@ -4,58 +4,52 @@ use mathlib.Core.Path.{_≡_, refl, sym, ap, _∙_}
 use mathlib.Core.List.{List, [], _∷_, _++_, reverse, reverseAux, reverseAux-reverseAux-nil}
 use Prim.Native.Nat.{ℕ, suc, _+_, _-_, _*_, _≤_, _<_}
 use native.Mathlib.Omega.{arith}
-use lib.ListN.{length, set, length-reverse}
-use Rattle.model.specs.Lists.{In, keep}
+use lib.ListN.{length, getD, drop, set, length-reverse}
+use lib.Seq.{drop-length, getD-set-same, getD-set-other}
+use Rattle.model.specs.Lists.{keep}
 use Rattle.model.specs.Rules.{covers, ends, Tree, chain}
-use Rattle.model.proofs.Keep.{length-keep}
-use Rattle.rows.specs.Rows.{fieldAt, firstOf, treeAt, underAt, lower, Lower}
-use Rattle.rows.proofs.Lower.{done as finished, done-start, done-step, done-all, lower-in, tree-none, tree-step}
-use lib.Dec.{leb}
+use Rattle.rows.specs.Rows.{fieldAt, firstOf, treeAt, underAt, Flat}
+use Rattle.rows.proofs.Sets.{tree-none, tree-step}
+use Rattle.rows.proofs.Insert.{back}
 use Rattle.cells.specs.Text.{at, word, frees, Run, len, low, row, width, under, first, marks, belows, text}
-use Rattle.cells.specs.States.{head, wrote, State, Spare, plain, Rows, Held, Builds}
+use Rattle.cells.specs.States.{head, wrote, State, Spare, plain, Rows, Lays, Held, Builds}
 use Rattle.cells.proofs.Text.{marks-len}
 use Rattle.cells.proofs.State.{st-head, st-length, st-put, both-past, both-back}
 use Rattle.cells.proofs.Runs.{took, rows-none, run-room, run-built}
 use Rattle.cells.proofs.Middle.{Rest, done, next, join, count, row-put, Mid, mid-wide, run-word}
 
--- what stands one below `after` is an end
-abbrev pub Next : List ℕ → ℕ → List ℕ → ℕ → Type 0
-Next rules f ps after = (e : ℕ) → after ≡ suc e → In e (ends (fieldAt rules f) ps)
+-- where the run of the ends es is laid down to the i-th: there is room for the others and n cells more
+pub record Laying (ws es : List ℕ) (h c a n : ℕ) (q : List ℕ) (i : ℕ) : Type 0 where
+  pub rows : Rows ws h c a (i + n) q (plain (drop i es))
+  pub most : i ≤ length es
 
-pub next-in : {rules : List ℕ} {f b : ℕ} {ps : List ℕ} {after : ℕ} → Lower rules f b ps after → Next rules f ps after
-next-in {rules} {f} {b} {ps} {after} l = λ e q. lower-in (fieldAt rules f) b ps e (sym (l .is) ∙ q)
-
--- where build_run stands: the run of the ends from `after` on stands, and there is room for the others and n cells more
-pub record Laying (ws rules ps : List ℕ) (f h c a n : ℕ) (q : List ℕ) (after : ℕ) : Type 0 where
-  pub rows : Rows ws h c a (length (ends (fieldAt rules f) ps) - length (finished (fieldAt rules f) ps after) + n) q (plain (finished (fieldAt rules f) ps after))
-
-pub laying : {ws rules ps : List ℕ} {f c a n b : ℕ} {q : List ℕ} {after : ℕ} → 4294967296 < b → Lower rules f b ps after → State ws c a a q (frees a (length (ends (fieldAt rules f) ps) + n)) → Laying ws rules ps f c c a n q after
+pub laying : {ws : List ℕ} (es : List ℕ) {c a n : ℕ} {q : List ℕ} (i : ℕ) → i ≡ length es → State ws c a a q (frees a (length es + n)) → Laying ws es c c a n q i
 unfolding plain
-laying {ws} {rules} {ps} {f} {c} {a} {n} {b} {q} {after} p l s =
-    let F = fieldAt rules f in
-    let z : finished F ps after ≡ [] = rw (l .is) (done-start F ps b (λ e m. let w = l .words e m in omega arith)) in
-    let y : length (ends F ps) - 0 + n ≡ length (ends F ps) + n = omega arith in
-    record { rows = rw (z, y) (rows-none ws c a (length (ends F ps) + n) q s) }
+laying {ws} es {c} {a} {n} {q} i e s =
+    let z : drop i es ≡ [] = rw e (drop-length es) in
+    record { rows = rw z (rows-none ws c a (i + n) q (rw e s)); most = omega arith }
 
-module _ {ws rules ps : List ℕ} {f h c a n : ℕ} {q : List ℕ} {after : ℕ} (b : Laying ws rules ps f h c a n q after) (x : Next rules f ps after) (p : 0 < after) where
-  step : finished (fieldAt rules f) ps (lower (fieldAt rules f) after ps) ≡ (after - 1) ∷ finished (fieldAt rules f) ps after
-  step = let z : after ≡ suc (after - 1) = omega arith in done-step (fieldAt rules f) ps after (after - 1) z (x (after - 1) z)
-
-  more : length (ends (fieldAt rules f) ps) - length (finished (fieldAt rules f) ps after) + n ≡ 1 + (length (ends (fieldAt rules f) ps) - suc (length (finished (fieldAt rules f) ps after)) + n)
-  more = omega (arith, ap length step, length-keep (leb (lower (fieldAt rules f) after ps)) (ends (fieldAt rules f) ps))
+module _ {ws es : List ℕ} {h c a n : ℕ} {q : List ℕ} {i : ℕ} (b : Laying ws es h c a n q i) (p : 0 < i) where
+  more : i + n ≡ 1 + (i - 1 + n)
+  more = omega arith
 
   pub lay-room : at (head ws) 2 < length ws
   lay-room = run-room (b .rows) _ more
 
-  pub lay-built : {after' : ℕ} → Lower rules f after ps after' → Laying (wrote (took ws) (head ws) (after - 1) h 0) rules ps f (head ws) c a n q after'
+  pub lay-built : {e : ℕ} → e ≡ getD es (i - 1) 0 → Laying (wrote (took ws) (head ws) e h 0) es (head ws) c a n q (i - 1)
   unfolding plain
-  lay-built l = record { rows = rw (l .is, step) (run-built (b .rows) _ more (after - 1)) }
+  lay-built {e} x =
+      let z : drop (i - 1) es ≡ e ∷ drop i es = rw x (back es i p (b .most)) in
+      record { rows = rw z (run-built (b .rows) _ more e); most = omega (arith, b .most) }
 
-pub laid : {ws rules ps : List ℕ} {f h c a n : ℕ} {q : List ℕ} {after : ℕ} → Laying ws rules ps f h c a n q after → after ≤ 0 → Rows ws h c a n q (plain (ends (fieldAt rules f) ps))
-laid {ws} {rules} {ps} {f} {h} {c} {a} {n} {q} {after} b l =
-    let E = ends (fieldAt rules f) ps in
-    let z : length E - length E + n ≡ n = omega arith in
-    rw z at (rw (done-all (fieldAt rules f) ps after (omega arith)) at (b .rows))
+pub laid : {ws es : List ℕ} {h c a n : ℕ} {q : List ℕ} {i : ℕ} → Laying ws es h c a n q i → i ≤ 0 → Rows ws h c a n q (plain es)
+laid {ws} {es} {h} {c} {a} {n} {q} {i} b l = let z : i ≡ 0 = omega arith in let y : 0 + n ≡ n = omega arith in rw y at (rw z at (b .rows))
+
+-- the end of a cell that is written
+pub wrote-end : (ws : List ℕ) (k e x d : ℕ) → at k 2 < length ws → word (wrote ws k e x d) k 0 ≡ e
+wrote-end ws k e x d h =
+    let l = set ws (at k 0) e in
+    getD-set-other (set l (at k 1) x) (at k 2) (at k 0) d 0 (λ q. omega arith) ∙ (getD-set-other l (at k 1) (at k 0) x 0 (λ q. omega arith) ∙ getD-set-same ws (at k 0) e 0 (omega arith))
 
 -- the rest of a run that has nothing below it, from its highest end on
 unfoldable pub bare : List ℕ → Rest
@@ -237,3 +231,38 @@ split {ws} {c} {a} {q} rules ps f n m nz s =
 pub under-is : (rules ps qs : List ℕ) (f n e : ℕ) → qs ≡ keep (covers (fieldAt rules f) e) ps → treeAt rules (f + 1) (n - 1) qs ≡ underAt rules f n ps e
 unfolding underAt
 under-is rules ps qs f n e k = rw k
+
+-- Where all rules have one range from 0 the chain is one cell, at k, and the same rules are below it.
+pub one-first : {ws rules ps : List ℕ} {f d c e : ℕ} → (d ≡ 0 → ⊥) → Flat rules f ps e → Spare ws c (width (treeAt rules f d ps) + under (treeAt rules f d ps)) → Spare ws c 1
+one-first {ws} {rules} {ps} {f} {d} nz l r = record { a = r .a; more = _; q = r .q; state = rw (l .one) at (split rules ps f d (r .more) nz (r .state)) }
+
+module _ (n : ℕ) {ws ws1 rules ps : List ℕ} {f d c a e k : ℕ} {q : List ℕ} (nz : d ≡ 0 → ⊥) (l : Flat rules f ps e)
+    (s : State ws c a a q (frees a (width (treeAt rules f d ps) + under (treeAt rules f d ps) + n))) (lay : Lays ws ws1 k c (e ∷ [])) (w : word ws1 k 0 ≡ e) where
+  abbrev ends-here : List ℕ
+  ends-here = ends (fieldAt rules f) ps
+
+  abbrev below-here : ℕ → Tree ℕ
+  below-here = underAt rules f d ps
+
+  one-run : Rows ws1 k c a (under (chain below-here ends-here) + n) q (plain ends-here)
+  one-run = rw (l .one) (lay a _ q (rw (l .one) at (split rules ps f d n nz s)))
+
+  one-at : k ≡ a
+  unfolding plain low len
+  one-at = let z = rw (l .one) at (one-run .lowest) in omega (arith, z)
+
+  one-turn : Turn ws1 c a n q k below-here ends-here
+  one-turn = rw one-at (turns (filling below-here ends-here one-run) (omega (arith, ap length (l .one))))
+
+  one-below : treeAt rules (f + 1) (d - 1) ps ≡ below-here (word ws1 k 0)
+  one-below = under-is rules ps ps f d (word ws1 k 0) (rw w (sym (l .all)))
+
+  pub one-spare : Spare ws1 c (width (treeAt rules (f + 1) (d - 1) ps) + under (treeAt rules (f + 1) (d - 1) ps))
+  one-spare = turn-spare one-turn _ one-below
+
+  module _ (ws2 : List ℕ) (g : ℕ) (b : Builds ws1 ws2 g c (treeAt rules (f + 1) (d - 1) ps)) where
+    pub one-room : at k 2 < length ws2
+    one-room = down-room one-turn _ one-below ws2 g b
+
+    pub one-built : Held (set ws2 (at k 2) g) k c a n q (treeAt rules f d ps)
+    one-built = rw (tree-step rules f d ps nz) (filled-all (filled one-turn _ one-below ws2 g b) one-run (omega (arith, one-at, ap length (l .one))))

@@ -1,8 +1,9 @@
 // The tree in the cells of a store. The slices of words that these functions are lent are the part of a store from its two links on: word 0 is the first cell of the free chain, word 1 is the cell where a walk begins, and cell k is the eight words from 2 + 8 k on. The number of cells c stands elsewhere and is passed beside the words; as a link it says "no cell".
 ghost use mathlib.Core.Path.{_≡_};
+ghost use mathlib.Core.List.{[], _∷_};
 ghost use Prim.Native.Nat.{_+_, _*_, _≤_, _<_, _-_};
 ghost use lib.ListN.{length, set};
-ghost use Rattle.model.specs.Rules.{stop, cells, ends};
+ghost use Rattle.model.specs.Rules.{stop, cells, ends as endsOf};
 ghost use Rattle.rows.specs.Rows.{fieldAt, treeAt};
 ghost use Rattle.cells.specs.Text.{at, word, part};
 ghost use Rattle.cells.specs.Planted.{Planted};
@@ -83,62 +84,70 @@ pub fn clear(words: &mut [u32], c: u32)
     }
 }
 
-// As build_run, for a set of many rules: their ends are copied first, since they are gone through once for each end.
-fn build_of_many(words: &mut [u32], c: u32, rules: &[u32], set: &[u32], field: u32) -> u32
-    requires { ⌜ Spare (now words) c (length (ends (fieldAt (now rules) field) (now set))) × (length (now set) ≤ 65) ⌝ }
-    ensures { λ r. ⌜ Lays (now (words .entry)) (now (words .exit)) r c (ends (fieldAt (now (rules .entry)) field) (now (set .entry))) ⌝ }
+// Takes a cell and makes a run of one end of it, with nothing below.
+fn build_one(words: &mut [u32], c: u32, end: u32) -> u32
+    requires { ⌜ Spare (now words) c 1 ⌝ }
+    ensures { λ r. ⌜ Lays (now (words .entry)) (now (words .exit)) r c (end ∷ []) × (word (now (words .exit)) r 0 ≡ end) ⌝ }
 {
-    let mut lows = [0u32; 65];
-    let mut highs = [0u32; 65];
-    rows::gather(rules, set, field, &mut lows, &mut highs);
-    let n = set.len();
-    let mut last = c;
-    let mut above = rows::lower_end(rules, set, field, 4294967297);
-    while 0 < above {
-        let k = take_cell(words);
-        let e = (above - 1) as u32;
-        write_cell(words, k, e, last, 0);
-        last = k;
-        above = rows::wide(rows::next_end(&lows[..n], &highs[..n], e));
-    }
-    last
+    let k = take_cell(words);
+    write_cell(words, k, end, c, 0);
+    k
 }
 
-// Takes a cell for each end of the rules of the set in a field, from the highest down, and makes a run of them with nothing below; answers the cell of the lowest end, or c where there is no end.
-fn build_run(words: &mut [u32], c: u32, rules: &[u32], set: &[u32], field: u32) -> u32
-    requires { ⌜ Spare (now words) c (length (ends (fieldAt (now rules) field) (now set))) × (length (now set) ≤ 65) ⌝ }
-    ensures { λ r. ⌜ Lays (now (words .entry)) (now (words .exit)) r c (ends (fieldAt (now (rules .entry)) field) (now (set .entry))) ⌝ }
+// Takes a cell for each end of the rules of the set in a field, from the highest down, and makes a run of them with nothing below; answers the cell of the lowest end, or c where there is no end. The ends are written beside, over what stood there.
+fn build_run(
+    words: &mut [u32],
+    c: u32,
+    rules: &[u32],
+    set: &[u32],
+    field: u32,
+    ends: &mut [u32],
+) -> u32
+    requires { ⌜ Spare (now words) c (length (endsOf (fieldAt (now rules) field) (now set))) × (length (now set) ≤ 65) × (length (now ends) ≡ 130) ⌝ }
+    ensures { λ r. ⌜ Lays (now (words .entry)) (now (words .exit)) r c (endsOf (fieldAt (now (rules .entry)) field) (now (set .entry))) ⌝ }
 {
-    if 12 < set.len() {
-        return build_of_many(words, c, rules, set, field);
-    }
+    let mut i = rows::ends_of(rules, set, field, ends);
     let mut lowest = c;
-    let mut after = rows::lower_end(rules, set, field, 4294967297);
-    while 0 < after {
+    while 0 < i {
+        i -= 1;
         let k = take_cell(words);
-        write_cell(words, k, (after - 1) as u32, lowest, 0);
+        write_cell(words, k, ends[i], lowest, 0);
         lowest = k;
-        after = rows::lower_end(rules, set, field, after);
     }
     lowest
 }
 
-// Builds the tree of the rules of the set over as many fields as are left, from a field on, in the first free cells: the run of the field's ends, and then for each of its cells the tree of the rules that cover its end. Answers where a walk of the tree begins.
-fn build_chain(words: &mut [u32], c: u32, rules: &[u32], set: &[u32], field: u32, left: u32) -> u32
-    requires { ⌜ RoomFor (now words) c (treeAt (now rules) field left (now set)) × (length (now set) ≤ 65) × (field + left ≤ 64) ⌝ }
+// Builds the tree of the rules of the set over as many fields as are left, from a field on, in the first free cells. Where all rules have one range from 0, the chain is one cell, with the same rules below it. Else it is the run of the field's ends, and then for each of its cells the tree of the rules that cover its end. Answers where a walk of the tree begins. The ends of each run in turn are written beside.
+fn build_chain(
+    words: &mut [u32],
+    c: u32,
+    rules: &[u32],
+    set: &[u32],
+    field: u32,
+    left: u32,
+    ends: &mut [u32],
+) -> u32
+    requires { ⌜ RoomFor (now words) c (treeAt (now rules) field left (now set)) × (length (now set) ≤ 65) × (field + left ≤ 64) × (length (now ends) ≡ 130) ⌝ }
     ensures { λ r. ⌜ Builds (now (words .entry)) (now (words .exit)) r c (treeAt (now (rules .entry)) field left (now (set .entry))) ⌝ }
 {
     if left == 0 {
         return rows::first_place(set);
     }
+    let high = rows::high(rules, rows::first_place(set), field);
+    if rows::flat(rules, set, field, high) {
+        let one = build_one(words, c, high);
+        let below = build_chain(words, c, rules, set, field + 1, left - 1, ends);
+        write_down(words, one, below);
+        return one;
+    }
     let mut k = words[0];
-    let lowest = build_run(words, c, rules, set, field);
+    let lowest = build_run(words, c, rules, set, field, ends);
     let past = words[0];
+    let mut under = [0u32; 65];
     while k < past {
         let end = word_of(words, k, 0);
-        let mut under = [0u32; 65];
         let n = rows::narrow(rules, set, field, end, &mut under);
-        let down = build_chain(words, c, rules, &under[..n], field + 1, left - 1);
+        let down = build_chain(words, c, rules, &under[..n], field + 1, left - 1, ends);
         write_down(words, k, down);
         k += 1;
     }
@@ -150,7 +159,8 @@ pub fn plant(words: &mut [u32], c: u32, rules: &[u32], set: &[u32], fields: u32)
     requires { ⌜ (now words ≡ part c stop) × (c ≤ 65536) × (cells (treeAt (now rules) 0 fields (now set)) ≤ c) × (length (now set) ≤ 65) × (fields ≤ 62) ⌝ }
     ensures { λ _. ⌜ now (words .exit) ≡ part c (treeAt (now (rules .entry)) 0 fields (now (set .entry))) ⌝ }
 {
-    let first = build_chain(words, c, rules, set, 0, fields);
+    let mut ends = [0u32; 130];
+    let first = build_chain(words, c, rules, set, 0, fields, &mut ends);
     words[1] = first;
 }
 

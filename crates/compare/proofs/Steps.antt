@@ -7,17 +7,16 @@ use Prim.Native.Nat.{ℕ, zero, suc, _+_, _-_, _*_, _≤_, _<_}
 use native.Mathlib.Nat.{add-zero}
 use native.Mathlib.Omega.{arith}
 use native.Mathlib.Numerals.{add-one}
-use lib.Dec.{ltb, leb}
+use lib.Dec.{ltb}
 use lib.ListN.{length, getD, drop, drop-of-length-le, length-drop}
-use lib.Seq.{drop-cons}
-use borrow.Author.Tests.{ltb-true, lt-ltb, leb-true, le-leb, eqb-true}
-use Rattle.model.specs.Lists.{In, keep, Rising}
-use Rattle.model.specs.Rules.{Field, covers, ends, Tree, names, chain, cells}
-use Rattle.model.proofs.Tests.{by-test, never, and-left, and-right, and-both, same-test}
-use Rattle.model.proofs.Keep.{keep-every}
-use Rattle.model.proofs.Ends.{ends-rising}
-use Rattle.rows.specs.Rows.{fieldAt, firstOf, treeAt, underAt, lower, Lower}
-use Rattle.rows.proofs.Lower.{lower-in, done, done-start, done-step, done-all, tree-none, tree-step}
+use lib.Seq.{drop-length, drop-cons}
+use borrow.Author.Tests.{ltb-true, lt-ltb, eqb-true}
+use Rattle.model.specs.Lists.{keep}
+use Rattle.model.specs.Rules.{covers, ends, Tree, names, chain, cells}
+use Rattle.model.proofs.Tests.{never, and-left, and-right, and-both, same-test}
+use Rattle.rows.specs.Rows.{fieldAt, firstOf, treeAt, underAt, Flat}
+use Rattle.rows.proofs.Sets.{tree-none, tree-step}
+use Rattle.rows.proofs.Insert.{back}
 use Rattle.cells.specs.Text.{word, cell, frees, low, row, width, under, first, marks, belows, text, part}
 use Rattle.compare.specs.declared.Told.{Told}
 use Rattle.compare.specs.declared.Told.the-variants.{Same, Differs}
@@ -28,13 +27,7 @@ use Rattle.compare.proofs.Answers.{was-no, was-yes, answer-no, answer-d
 use Rattle.cells.proofs.Text.{marks-len, cells-sum}
 use Rattle.compare.proofs.Text.{Cell, cell-rest, cell-here, cell-head, cell-others, cell-inside, cell-of, Held, Parts, text-parts, text-rest, parts-held, told-same, told-differs, told-not, told-held, told-inside}
 
--- THE RUN. What a rising list keeps from a bound on is its end.
-keep-end : (es : List ℕ) → Rising es → (b : ℕ) → (n : ℕ) × (keep (leb b) es ≡ drop n es)
-keep-end [] r b = (0, refl)
-keep-end (e ∷ es) r b = by-test (leb b e)
-    (λ t. (0, rw t (ap (λ l. e ∷ l) (keep-every (leb b) es (λ x m. le-leb b x (omega (arith, leb-true b e t, r .0 x m)))))))
-    (λ t. let s = keep-end es (r .1) b in (suc (s .0), rw t (s .1)))
-
+-- THE RUN
 module _ (ws : List ℕ) (c k : ℕ) where
   heads-drop : (n : ℕ) (es : List ℕ) → headsAre ws c k es ≡ true → headsAre ws c k (drop n es) ≡ true
   unfolding headsAre
@@ -59,56 +52,51 @@ module _ (ws : List ℕ) (c k : ℕ) where
   unfolding toldRun
   run-told es h = answer-same (headsAre ws c k es) (k + length es) (before c k es) h
 
--- where the comparison of a run stands: after is one more than the next end
-pub record Going (ws : List ℕ) (c : ℕ) (f : Field (List ℕ) ℕ) (ps : List ℕ) (k next head after : ℕ) : Type 0 where
-  pub heads : headsAre ws c k (done f ps after) ≡ true
-  pub past : next ≡ k + length (done f ps after)
-  pub low : head ≡ before c k (done f ps after)
-  pub end : (e : ℕ) → after ≡ suc e → In e (ends f ps)
+-- where the comparison of the run of the ends es stands: those from the i-th on stand, and end before the cell next
+pub record Going (ws : List ℕ) (c : ℕ) (es : List ℕ) (k next head i : ℕ) : Type 0 where
+  pub heads : headsAre ws c k (drop i es) ≡ true
+  pub past : next ≡ k + length (drop i es)
+  pub low : head ≡ before c k (drop i es)
   pub inside : next ≤ c
-  pub small : after ≤ 4294967296
+  pub most : i ≤ length es
 
-pub going-start : (ws : List ℕ) (c : ℕ) (rules : List ℕ) (f : ℕ) (ps : List ℕ) (k after : ℕ) → k ≤ c → Lower rules f 4294967297 ps after → Going ws c (fieldAt rules f) ps k k c after
+pub going-start : (ws : List ℕ) (c : ℕ) (es : List ℕ) (k i : ℕ) → k ≤ c → i ≡ length es → Going ws c es k k c i
 unfolding headsAre before
-going-start ws c rules f ps k after l h =
-    let z : done (fieldAt rules f) ps after ≡ [] = rw (h .is) (done-start (fieldAt rules f) ps 4294967297 (λ e m. let q = h .words e m in omega arith)) in
-    record { heads = rw z; past = rw z (omega arith); low = rw z; end = λ e q. lower-in (fieldAt rules f) 4294967297 ps e (sym (h .is) ∙ q); inside = l; small = h .small }
+going-start ws c es k i l q =
+    let z : drop i es ≡ [] = rw q (drop-length es) in
+    record { heads = rw z; past = rw z (omega arith); low = rw z; inside = l; most = omega arith }
 
-module _ {ws : List ℕ} {c : ℕ} {f : Field (List ℕ) ℕ} {ps : List ℕ} {k next head after : ℕ} (o : Going ws c f ps k next head after) where
-  pub going-end : after ≤ 0 → Same next head ≡ toldRun ws c k (ends f ps)
+module _ {ws : List ℕ} {c : ℕ} {es : List ℕ} {k next head i : ℕ} (o : Going ws c es k next head i) where
+  pub going-end : i ≤ 0 → Same next head ≡ toldRun ws c k es
   unfolding toldRun
   going-end l =
-      let z = done-all f ps after (omega arith) in
+      let z : i ≡ 0 = omega arith in
       rw (rw z at (o .past), rw z at (o .low), rw z at (o .heads))
 
-  module _ (p : 0 < after) where
-    more : done f ps (lower f after ps) ≡ (after - 1) ∷ done f ps after
-    more = let q : after ≡ suc (after - 1) = omega arith in done-step f ps after (after - 1) q (o .end (after - 1) q)
+  module _ (p : 0 < i) {e : ℕ} (q : e ≡ getD es (i - 1) 0) where
+    more : drop (i - 1) es ≡ e ∷ drop i es
+    more = rw q (back es i p (o .most))
 
     -- the next cell has to stand too
-    expected : headsAre ws c k (ends f ps) ≡ true → (ltb next c && headIs ws next (after - 1) head) ≡ true
+    expected : headsAre ws c k es ≡ true → (ltb next c && headIs ws next e head) ≡ true
     unfolding headsAre
-    expected h =
-        let s = keep-end (ends f ps) (ends-rising f ps) (lower f after ps) in
-        let d = rw (sym (s .1) ∙ more) at (heads-drop ws c k (s .0) (ends f ps) h) in
-        rw (o .past, o .low) (and-right (headsAre ws c k (done f ps after)) _ d)
+    expected h = rw (o .past, o .low) (and-right (headsAre ws c k (drop i es)) _ (rw more at (heads-drop ws c k (i - 1) es h)))
 
-    pub going-full : c ≤ next → Differs ≡ toldRun ws c k (ends f ps)
-    going-full l = sym (run-differs ws c k (ends f ps) (λ h. omega (arith, ltb-true next c (and-left _ _ (expected h)))))
+    pub going-no : {x : Bool} → x ≡ headIs ws next e head → not x ≡ true → Differs ≡ toldRun ws c k es
+    going-no h d = sym (run-differs ws c k es (λ g. never (sym (and-right (ltb next c) _ (expected g)) ∙ was-no h d)))
 
-    pub going-no : {x : Bool} → x ≡ headIs ws next (after - 1) head → not x ≡ true → Differs ≡ toldRun ws c k (ends f ps)
-    going-no h d = sym (run-differs ws c k (ends f ps) (λ g. never (sym (and-right (ltb next c) _ (expected g)) ∙ was-no h d)))
-
-    pub going-on : {x : Bool} → next < c → x ≡ headIs ws next (after - 1) head → not x ≡ false → (r : ℕ) → r ≡ lower f after ps → r ≤ 4294967296 → Going ws c f ps k (next + 1) next r
+    pub going-on : {x : Bool} → next < c → x ≡ headIs ws next e head → not x ≡ false → Going ws c es k (next + 1) next (i - 1)
     unfolding headsAre before
-    going-on l h d r q small = record {
-      heads = rw (q, more) (and-both _ _ (o .heads) (rw (← o .past, ← o .low) (and-both _ _ (lt-ltb next c l) (was-yes h d))));
-      past = rw (q, more) (omega (arith, o .past));
-      low = rw (q, more) (o .past);
-      end = λ e z. lower-in f after ps e (sym q ∙ z);
+    going-on l h d = record {
+      heads = rw more (and-both _ _ (o .heads) (rw (← o .past, ← o .low) (and-both _ _ (lt-ltb next c l) (was-yes h d))));
+      past = rw more (omega (arith, o .past));
+      low = rw more (o .past);
       inside = omega arith;
-      small = small;
+      most = omega (arith, o .most);
     }
+
+  pub going-full : 0 < i → c ≤ next → Differs ≡ toldRun ws c k es
+  going-full p l = sym (run-differs ws c k es (λ h. omega (arith, ltb-true next c (and-left _ _ (expected p refl h)))))
 
 -- WHAT IS BELOW A RUN. The chain of the ends es, lowest first, with g e below the end e.
 module _ (g : ℕ → Tree ℕ) where
@@ -304,6 +292,39 @@ module _ {ws : List ℕ} {c : ℕ} {rules ps : List ℕ} {f k low end i down : �
 
   pub last-on : not x ≡ false → Compared ws c rules ps f 1 k low end (i + 1) end
   last-on e = compared-on (λ z. absurd (omega arith)) o r l refl below-last refl g e
+
+-- where all rules have one range from 0 the chain is one cell, and the same rules are below it
+module _ {ws : List ℕ} {c : ℕ} {rules ps : List ℕ} {f n k e : ℕ} (nz : n ≡ 0 → ⊥) (l : Flat rules f ps e) (r : Room ws c) (m : k ≤ c) where
+  begun : Going ws c (ends (fieldAt rules f) ps) k k c 1
+  begun = going-start ws c _ k 1 m (rw (l .one))
+
+  only : e ≡ getD (ends (fieldAt rules f) ps) (1 - 1) 0
+  only = rw (l .one)
+
+  pub flat-full : c ≤ k → Differs ≡ told ws c k (treeAt rules f n ps)
+  flat-full h = compared-run ws c rules ps f n k nz r refl (sym (going-full begun (omega arith) h))
+
+  module _ {x : Bool} (h : x ≡ headIs ws k e c) where
+    pub flat-no : not x ≡ true → Differs ≡ told ws c k (treeAt rules f n ps)
+    flat-no d = compared-run ws c rules ps f n k nz r refl (sym (going-no begun (omega arith) only h d))
+
+    module _ (i : k < c) (d : not x ≡ false) {a : Told} (t : a ≡ told ws c (k + 1) (treeAt rules (f + 1) (n - 1) ps)) where
+      start : Compared ws c rules ps f n k k (k + 1) k (k + 1)
+      start = compared-start ws c rules ps f n k nz m refl (sym (going-end (going-on begun (omega arith) only i h d) (omega arith)))
+
+      covered : ps ≡ keep (covers (fieldAt rules f) (getD ws (2 + 8 * k) 0)) ps
+      unfolding headIs
+      covered = let z : getD ws (2 + 8 * k) 0 ≡ e = rw add-zero at (eqb-true (word ws k 0) e (and-left _ _ (was-yes h d))) in rw z (sym (l .all))
+
+      pub flat-not : a ≡ Differs → Differs ≡ told ws c k (treeAt rules f n ps)
+      flat-not v = compared-not nz start r (omega arith) covered t v
+
+      module _ {past down : ℕ} {y : Bool} (u : a ≡ Same past down) (g : y ≡ restIs ws k down) where
+        pub flat-no-rest : not y ≡ true → Differs ≡ told ws c k (treeAt rules f n ps)
+        flat-no-rest v = compared-no nz start r (omega arith) covered t u g v
+
+        pub flat-same : not y ≡ false → Same past k ≡ told ws c k (treeAt rules f n ps)
+        flat-same v = compared-end nz (compared-on nz start r (omega arith) covered t u g v) (omega arith)
 
 -- THE FREE CHAIN
 module _ (ws : List ℕ) (c : ℕ) (r : Room ws c) (i : ℕ) where

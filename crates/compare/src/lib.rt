@@ -2,7 +2,7 @@
 ghost use mathlib.Core.Path.{_≡_};
 ghost use Prim.Native.Nat.{_+_, _-_, _*_, _≤_, _<_};
 ghost use lib.ListN.{length};
-ghost use Rattle.model.specs.Rules.{ends};
+ghost use Rattle.model.specs.Rules.{ends as endsOf};
 ghost use Rattle.rows.specs.Rows.{fieldAt, treeAt};
 ghost use Rattle.cells.specs.Text.{frees, part};
 ghost use Rattle.model.specs.Lists.{same};
@@ -56,55 +56,32 @@ fn rest_is(words: &[u32], c: u32, k: u32, down: u32) -> bool
     f == 0
 }
 
-// As run_is, for a set of many rules: their ends are copied first, since they are gone through once for each end.
-fn run_of_many(words: &[u32], c: u32, rules: &[u32], set: &[u32], field: u32, k: u32) -> Told
-    requires { ⌜ Room (now words) c × (k ≤ c) × (length (now set) ≤ 65) ⌝ }
-    ensures { λ r. ⌜ r ≡ toldRun (now (words .entry)) c k (ends (fieldAt (now (rules .entry)) field) (now (set .entry))) ⌝ }
+// Whether the cells from k on have the ends of the rules at the places of the set in a field, the highest first, each with the cell before it as its next. The ends are written beside, over what stood there.
+fn run_is(
+    words: &[u32],
+    c: u32,
+    rules: &[u32],
+    set: &[u32],
+    field: u32,
+    k: u32,
+    ends: &mut [u32],
+) -> Told
+    requires { ⌜ Room (now words) c × (k ≤ c) × (length (now set) ≤ 65) × (length (now ends) ≡ 130) ⌝ }
+    ensures { λ r. ⌜ r ≡ toldRun (now (words .entry)) c k (endsOf (fieldAt (now (rules .entry)) field) (now (set .entry))) ⌝ }
 {
-    let mut lows = [0u32; 65];
-    let mut highs = [0u32; 65];
-    rows::gather(rules, set, field, &mut lows, &mut highs);
-    let n = set.len();
-    let mut at = k;
-    let mut prior = c;
-    let mut above = rows::lower_end(rules, set, field, 4294967297);
-    while 0 < above {
-        if c <= at {
-            return Told::Differs;
-        }
-        let e = (above - 1) as u32;
-        if !head_is(words, c, at, e, prior) {
-            return Told::Differs;
-        }
-        prior = at;
-        at += 1;
-        above = rows::wide(rows::next_end(&lows[..n], &highs[..n], e));
-    }
-    Told::Same(at, prior)
-}
-
-// Whether the cells from k on have the ends of the rules at the places of the set in a field, the highest first, each with the cell before it as its next.
-fn run_is(words: &[u32], c: u32, rules: &[u32], set: &[u32], field: u32, k: u32) -> Told
-    requires { ⌜ Room (now words) c × (k ≤ c) × (length (now set) ≤ 65) ⌝ }
-    ensures { λ r. ⌜ r ≡ toldRun (now (words .entry)) c k (ends (fieldAt (now (rules .entry)) field) (now (set .entry))) ⌝ }
-{
-    if 12 < set.len() {
-        return run_of_many(words, c, rules, set, field, k);
-    }
+    let mut i = rows::ends_of(rules, set, field, ends);
     let mut next = k;
     let mut head = c;
-    let mut after = rows::lower_end(rules, set, field, 4294967297);
-    while 0 < after {
+    while 0 < i {
         if c <= next {
             return Told::Differs;
         }
-        let e = (after - 1) as u32;
-        if !head_is(words, c, next, e, head) {
+        i -= 1;
+        if !head_is(words, c, next, ends[i], head) {
             return Told::Differs;
         }
         head = next;
         next += 1;
-        after = rows::lower_end(rules, set, field, after);
     }
     Told::Same(next, head)
 }
@@ -120,7 +97,7 @@ fn last_is(
     end: u32,
     low: u32,
 ) -> Told
-    requires { ⌜ Room (now words) c × (k ≤ c) × (toldRun (now words) c k (ends (fieldAt (now rules) field) (now set)) ≡ Told.Same end low) ⌝ }
+    requires { ⌜ Room (now words) c × (k ≤ c) × (toldRun (now words) c k (endsOf (fieldAt (now rules) field) (now set)) ≡ Told.Same end low) ⌝ }
     ensures { λ r. ⌜ r ≡ told (now (words .entry)) c k (treeAt (now (rules .entry)) field 1 (now (set .entry))) ⌝ }
 {
     let mut i = k;
@@ -135,7 +112,7 @@ fn last_is(
     Told::Same(end, low)
 }
 
-// Whether the cells from k on are the tree of the rules at the places of the set, over left fields from field on. First the ends of the chain's run; then, cell by cell, what is below each: it begins at cell b.
+// Whether the cells from k on are the tree of the rules at the places of the set, over left fields from field on. Where all rules have one range from 0, the chain is one cell, with the same rules below it. Else first the ends of the chain's run; then, cell by cell, what is below each: it begins at cell b. The ends of each run in turn are written beside.
 fn compare_chain(
     words: &[u32],
     c: u32,
@@ -144,24 +121,50 @@ fn compare_chain(
     field: u32,
     left: u32,
     k: u32,
+    ends: &mut [u32],
 ) -> Told
-    requires { ⌜ Room (now words) c × (length (now set) ≤ 65) × (field + left ≤ 64) × (k ≤ c) ⌝ }
+    requires { ⌜ Room (now words) c × (length (now set) ≤ 65) × (field + left ≤ 64) × (k ≤ c) × (length (now ends) ≡ 130) ⌝ }
     ensures { λ r. ⌜ r ≡ told (now (words .entry)) c k (treeAt (now (rules .entry)) field left (now (set .entry))) ⌝ }
 {
     if left == 0 {
         return Told::Same(k, rows::first_place(set));
     }
-    let Told::Same(end, low) = run_is(words, c, rules, set, field, k) else {
+    let high = rows::high(rules, rows::first_place(set), field);
+    if rows::flat(rules, set, field, high) {
+        if c <= k {
+            return Told::Differs;
+        }
+        if !head_is(words, c, k, high, c) {
+            return Told::Differs;
+        }
+        let Told::Same(past, down) = compare_chain(
+            words,
+            c,
+            rules,
+            set,
+            field + 1,
+            left - 1,
+            k + 1,
+            ends,
+        ) else {
+            return Told::Differs;
+        };
+        if !rest_is(words, c, k, down) {
+            return Told::Differs;
+        }
+        return Told::Same(past, k);
+    }
+    let Told::Same(end, low) = run_is(words, c, rules, set, field, k, ends) else {
         return Told::Differs;
     };
     if left == 1 {
         return last_is(words, c, rules, set, field, k, end, low);
     }
+    let mut under = [0u32; 65];
     let mut i = k;
     let mut b = end;
     while i < end {
         let e = words[2 + 8 * (i as usize)];
-        let mut under = [0u32; 65];
         let n = rows::narrow(rules, set, field, e, &mut under);
         let Told::Same(past, down) = compare_chain(
             words,
@@ -171,6 +174,7 @@ fn compare_chain(
             field + 1,
             left - 1,
             b,
+            ends,
         ) else {
             return Told::Differs;
         };
@@ -206,7 +210,8 @@ pub fn part_is(words: &[u32], c: u32, rules: &[u32], set: &[u32], fields: u32) -
     requires { ⌜ (length (now words) ≡ 2 + 8 * c) × (c ≤ 65536) × (length (now set) ≤ 65) × (fields ≤ 62) ⌝ }
     ensures { λ r. ⌜ r ≡ same (now (words .entry)) (part c (treeAt (now (rules .entry)) 0 fields (now (set .entry)))) ⌝ }
 {
-    let Told::Same(past, low) = compare_chain(words, c, rules, set, 0, fields, 0) else {
+    let mut ends = [0u32; 130];
+    let Told::Same(past, low) = compare_chain(words, c, rules, set, 0, fields, 0, &mut ends) else {
         return false;
     };
     if words[0] != past {

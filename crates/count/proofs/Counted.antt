@@ -1,76 +1,90 @@
 -- Counting the locations of a chain from its highest end down, with a stop: what the loop of `count_chain` keeps, and what its answer tells.
 -- Assumes nothing.
 use mathlib.Core.Path.{_≡_, refl, sym, ap, _∙_}
-use mathlib.Core.Bool.{Bool}
 use mathlib.Core.List.{List, [], _∷_}
-use Prim.Native.Nat.{ℕ, suc, _+_, _-_, _≤_, _<_, min}
+use Prim.Native.Nat.{ℕ, zero, suc, _+_, _-_, _≤_, _<_, min}
 use native.Mathlib.Omega.{arith}
-use lib.Dec.{leb}
-use Rattle.model.specs.Lists.{In, keep}
+use lib.ListN.{length, getD, drop}
+use lib.Seq.{drop-length}
+use Rattle.model.specs.Lists.{keep}
 use Rattle.model.specs.Rules.{covers, ends, Tree, chain, cells}
-use Rattle.model.proofs.Tests.{by-test}
-use Rattle.rows.specs.Rows.{fieldAt, treeAt, underAt, lower, Lower}
-use Rattle.rows.proofs.Lower.{done, done-start, done-step, done-all, lower-in, tree-none, tree-step}
+use Rattle.rows.specs.Rows.{fieldAt, treeAt, underAt, Flat}
+use Rattle.rows.proofs.Sets.{tree-none, tree-step}
+use Rattle.rows.proofs.Insert.{back}
 
--- what a count with a stop tells: at most room, it is the number
-pub count-is : {n r room : ℕ} → r ≡ min n (room + 1) → r ≤ room → n ≡ r
-count-is e h = omega arith
+-- a chain of the last of the ends has no more locations
+drop-fewer : (u : ℕ → Tree ℕ) (k : ℕ) (es : List ℕ) → cells (chain u (drop k es)) ≤ cells (chain u es)
+drop-fewer u zero es = omega arith
+drop-fewer u (suc k) [] = omega arith
+drop-fewer u (suc k) (e ∷ es) = omega (arith, drop-fewer u k es)
 
--- a chain of some of the ends has no more locations
-keep-fewer : (u : ℕ → Tree ℕ) (p : ℕ → Bool) (es : List ℕ) → cells (chain u (keep p es)) ≤ cells (chain u es)
-keep-fewer u p [] = omega arith
-keep-fewer u p (e ∷ es) = by-test (p e) (λ t. simp t (omega (arith, keep-fewer u p es))) (λ t. simp t (omega (arith, keep-fewer u p es)))
+-- a chain with nothing under its locations
+bare : (u : ℕ → Tree ℕ) → ((e : ℕ) → cells (u e) ≡ 0) → (es : List ℕ) → cells (chain u es) ≡ length es
+bare u h [] = refl
+bare u h (e ∷ es) = omega (arith, h e, bare u h es)
 
--- the locations that are counted when `after` is one more than the next end
+-- the locations of the ends from the i-th on
 unfoldable pub sofar : List ℕ → ℕ → ℕ → List ℕ → ℕ → ℕ
-sofar rules f n ps after = cells (chain (underAt rules f n ps) (done (fieldAt rules f) ps after))
+sofar rules f n ps i = cells (chain (underAt rules f n ps) (drop i (ends (fieldAt rules f) ps)))
 
--- where the loop stands: the count is right so far, and the next end is one of the ends
-pub record Counted (rules ps : List ℕ) (f n room count after : ℕ) : Type 0 where
-  pub is : count ≡ min (sofar rules f n ps after) (room + 1)
-  pub small : after ≤ 4294967296
-  pub next : (e : ℕ) → after ≡ suc e → In e (ends (fieldAt rules f) ps)
+-- where the loop stands: the ends from the i-th on are counted
+pub record Counted (rules ps : List ℕ) (f n room count i : ℕ) : Type 0 where
+  pub is : count ≡ min (sofar rules f n ps i) (room + 1)
+  pub most : i ≤ length (ends (fieldAt rules f) ps)
 
-from-lower : {rules ps : List ℕ} {f n room count b after : ℕ} → count ≡ min (sofar rules f n ps after) (room + 1) → Lower rules f b ps after → Counted rules ps f n room count after
-from-lower {rules} {ps} {f} {n} {room} {count} {b} {after} e l =
-    record { is = e; small = l .small; next = λ x q. lower-in (fieldAt rules f) b ps x (sym (l .is) ∙ q) }
+module _ (rules ps : List ℕ) (f n room : ℕ) where
+  pub counted-none : n ≡ 0 → 0 ≡ min (cells (treeAt rules f n ps)) (room + 1)
+  counted-none e = rw (tree-none rules f n ps e) (omega arith)
 
-pub counted-none : (rules ps : List ℕ) (f n room : ℕ) → n ≡ 0 → 0 ≡ min (cells (treeAt rules f n ps)) (room + 1)
-counted-none rules ps f n room e = rw (tree-none rules f n ps e) (omega arith)
+  -- in the last field there are as many locations as ends
+  last : n ≡ 1 → cells (treeAt rules f n ps) ≡ length (ends (fieldAt rules f) ps)
+  unfolding underAt
+  last e = rw (tree-step rules f n ps (λ z. omega arith)) (bare (underAt rules f n ps) (λ x. rw (tree-none rules (f + 1) (n - 1) _ (omega arith))) (ends (fieldAt rules f) ps))
 
-pub counted-start : (rules ps : List ℕ) (f n room after : ℕ) → Lower rules f 4294967297 ps after → Counted rules ps f n room 0 after
-unfolding sofar
-counted-start rules ps f n room after l =
-    let z : done (fieldAt rules f) ps after ≡ [] = rw (l .is) (done-start (fieldAt rules f) ps 4294967297 (λ e m. omega (arith, l .words e m))) in
-    from-lower (rw z (omega arith)) l
+  pub last-full : {r : ℕ} → n ≡ 1 → r ≡ length (ends (fieldAt rules f) ps) → room < r → room + 1 ≡ min (cells (treeAt rules f n ps)) (room + 1)
+  last-full e q l = omega (arith, last e)
 
-module _ {rules ps : List ℕ} {f n room count after : ℕ} (c : Counted rules ps f n room count after) (nz : n ≡ 0 → ⊥) where
-  pub counted-end : after ≤ 0 → count ≡ min (cells (treeAt rules f n ps)) (room + 1)
+  pub last-fits : {r : ℕ} → n ≡ 1 → r ≡ length (ends (fieldAt rules f) ps) → r ≤ room → r ≡ min (cells (treeAt rules f n ps)) (room + 1)
+  last-fits e q l = omega (arith, last e)
+
+  -- where all rules have one range from 0 there is one location, and the same rules are under it
+  module _ {e : ℕ} (nz : n ≡ 0 → ⊥) (l : Flat rules f ps e) where
+    flat : cells (treeAt rules f n ps) ≡ suc (cells (treeAt rules (f + 1) (n - 1) ps))
+    unfolding underAt
+    flat = rw (tree-step rules f n ps nz, l .one, l .all) (omega arith)
+
+    pub flat-full : room ≡ 0 → 1 ≡ min (cells (treeAt rules f n ps)) (room + 1)
+    flat-full q = omega (arith, flat)
+
+    pub flat-on : (room ≡ 0 → ⊥) → (g : ℕ) → g ≡ min (cells (treeAt rules (f + 1) (n - 1) ps)) (room - 1 + 1) → 1 + g ≡ min (cells (treeAt rules f n ps)) (room + 1)
+    flat-on d g u = omega (arith, flat)
+
+  pub counted-start : (i : ℕ) → i ≡ length (ends (fieldAt rules f) ps) → Counted rules ps f n room 0 i
   unfolding sofar
-  counted-end l =
-      omega (arith, ap cells (tree-step rules f n ps nz), ap (λ (es : List ℕ). cells (chain (underAt rules f n ps) es)) (done-all (fieldAt rules f) ps after (omega arith)))
+  counted-start i q = record { is = rw (q, drop-length (ends (fieldAt rules f) ps)) (omega arith); most = omega arith }
 
-  module _ (p : 0 < after) where
-    -- one end more is done: its location, and what is under it
-    step : sofar rules f n ps (lower (fieldAt rules f) after ps) ≡ suc (cells (underAt rules f n ps (after - 1)) + sofar rules f n ps after)
+module _ {rules ps : List ℕ} {f n room count i : ℕ} (c : Counted rules ps f n room count i) (nz : n ≡ 0 → ⊥) where
+  pub counted-end : i ≤ 0 → count ≡ min (cells (treeAt rules f n ps)) (room + 1)
+  unfolding sofar
+  counted-end l = let z : i ≡ 0 = omega arith in rw (tree-step rules f n ps nz) (rw z at (c .is))
+
+  module _ (p : 0 < i) where
+    -- one end more is counted: its location, and what is under it
+    step : sofar rules f n ps (i - 1) ≡ suc (cells (underAt rules f n ps (getD (ends (fieldAt rules f) ps) (i - 1) 0)) + sofar rules f n ps i)
     unfolding sofar
-    step = let y : after ≡ suc (after - 1) = omega arith in rw (done-step (fieldAt rules f) ps after (after - 1) y (c .next (after - 1) y))
+    step = rw (back (ends (fieldAt rules f) ps) i p (c .most))
 
     -- so where an end is left and the room is full, the tree has more locations
     pub counted-full : room ≤ count → room + 1 ≡ min (cells (treeAt rules f n ps)) (room + 1)
     unfolding sofar
     counted-full l =
-        omega (arith, c .is, step, keep-fewer (underAt rules f n ps) (leb (lower (fieldAt rules f) after ps)) (ends (fieldAt rules f) ps), ap cells (tree-step rules f n ps nz))
+        omega (arith, c .is, step, drop-fewer (underAt rules f n ps) (i - 1) (ends (fieldAt rules f) ps), ap cells (tree-step rules f n ps nz))
 
-    pub counted-on : count < room → (places : List ℕ) → places ≡ keep (covers (fieldAt rules f) (after - 1)) ps → (g : ℕ) → g ≡ min (cells (treeAt rules (f + 1) (n - 1) places)) (room - 1 - count + 1)
-        → (after' : ℕ) → Lower rules f after ps after' → Counted rules ps f n room (count + 1 + g) after'
+    pub counted-on : {e : ℕ} → e ≡ getD (ends (fieldAt rules f) ps) (i - 1) 0 → count < room → (places : List ℕ) → places ≡ keep (covers (fieldAt rules f) e) ps
+        → (g : ℕ) → g ≡ min (cells (treeAt rules (f + 1) (n - 1) places)) (room - 1 - count + 1) → Counted rules ps f n room (count + 1 + g) (i - 1)
     unfolding underAt
-    counted-on l places k g u after' x =
-        from-lower (omega (arith, c .is, step, ap (λ (qs : List ℕ). cells (treeAt rules (f + 1) (n - 1) qs)) k, ap (sofar rules f n ps) (x .is))) x
-
-    -- in the last field nothing is under the location
-    pub counted-last : n ≡ 1 → count < room → (after' : ℕ) → Lower rules f after ps after' → Counted rules ps f n room (count + 1) after'
-    counted-last o l after' x =
-        let z : count + 1 + 0 ≡ count + 1 = omega arith in
-        let y : n - 1 ≡ 0 = omega arith in
-        rw z at (counted-on l _ refl 0 (counted-none rules _ (f + 1) (n - 1) (room - 1 - count) y) after' x)
+    counted-on {e} q l places k g u =
+        record {
+          is = omega (arith, c .is, step, ap (λ (x : ℕ). cells (underAt rules f n ps x)) q, ap (λ (qs : List ℕ). cells (treeAt rules (f + 1) (n - 1) qs)) k);
+          most = omega (arith, c .most);
+        }

@@ -4,16 +4,14 @@ ghost use mathlib.Core.Path.{_≡_};
 ghost use Prim.Native.Nat.{_+_, _<_, _≤_};
 ghost use lib.ListN.{length};
 ghost use Rattle.header.specs.Header.{
+  byte,
   half,
   word,
   headerLength,
   totalLength,
   hasPorts,
-  unreadable,
-  packetOf,
   headerOf,
 };
-ghost use Rattle.header.specs.Facts.{Readable};
 
 // A packet's values, in the order of the fields.
 pub struct Packet {
@@ -30,70 +28,46 @@ pub enum Header {
     Unreadable,
 }
 
-// The values of the packet that s begins with.
+// The values of the packet that s begins with. The tests stand in document 01's order, and each byte is read where the tests before it have shown that it is there.
 pub fn read_header(s: &[u8]) -> Header
     ensures { λ r. ⌜ r ≡ headerOf (now (s .entry)) ⌝ }
 {
-    if is_unreadable(s) {
+    if s.len() < 20 {
         return Header::Unreadable;
     }
-    Header::Values(read_values(s))
-}
-
-// Whether s gives no values. The tests stand in document 01's order.
-fn is_unreadable(s: &[u8]) -> bool
-    ensures { λ r. ⌜ r ≡ unreadable (now (s .entry)) ⌝ }
-{
-    if s.len() < 20 {
-        return true;
-    }
     if s[0] / 16 != 4 {
-        return true;
+        return Header::Unreadable;
     }
     if s[0] % 16 < 5 {
-        return true;
+        return Header::Unreadable;
     }
     let behind = header_length(s);
     let total = total_length(s);
     if total < behind {
-        return true;
+        return Header::Unreadable;
     }
     if s.len() < total {
-        return true;
+        return Header::Unreadable;
     }
     if has_ports(s) {
-        return total < behind + 4;
+        if total < behind + 4 {
+            return Header::Unreadable;
+        }
+        return Header::Values(Packet {
+            destination: word_at(s, 16),
+            source: word_at(s, 12),
+            protocol: wide(s[9]),
+            destination_port: half_at(s, behind + 2),
+            source_port: half_at(s, behind),
+        });
     }
-    false
-}
-
-// The values of a packet that can be read.
-fn read_values(s: &[u8]) -> Packet
-    requires { ⌜ Readable (now s) ⌝ }
-    ensures { λ r. ⌜ r ≡ packetOf (now (s .entry)) ⌝ }
-{
-    let destination = word_at(s, 16);
-    let source = word_at(s, 12);
-    let protocol = wide(s[9]);
-    if has_ports(s) {
-        let behind = header_length(s);
-        let source_port = half_at(s, behind);
-        let destination_port = half_at(s, behind + 2);
-        return Packet {
-            destination,
-            source,
-            protocol,
-            destination_port,
-            source_port,
-        };
-    }
-    Packet {
-        destination,
-        source,
-        protocol,
+    Header::Values(Packet {
+        destination: word_at(s, 16),
+        source: word_at(s, 12),
+        protocol: wide(s[9]),
         destination_port: 0,
         source_port: 0,
-    }
+    })
 }
 
 // Whether the packet carries ports: it is TCP or UDP, and whole or the first of its fragments. The

@@ -1,12 +1,10 @@
 -- The rules as rows of a list of words, and the tree of the rules at some places of it.
 -- Assumes nothing: these are definitions.
 use mathlib.Core.Path.{_≡_}
-use mathlib.Core.Bool.{cond}
-use mathlib.Core.List.{List, [], _∷_, map}
-use Prim.Native.Nat.{ℕ, zero, suc, _+_, _-_, _*_, _≤_, _<_}
-use lib.Dec.{ltb}
+use mathlib.Core.List.{List, [], _∷_}
+use Prim.Native.Nat.{ℕ, zero, suc, _+_, _-_, _*_}
 use lib.ListN.{getD}
-use Rattle.model.specs.Lists.{In, keep}
+use Rattle.model.specs.Lists.{keep}
 use Rattle.model.specs.Rules.{Field, covers, ends, Tree, tree}
 
 -- row p: its number, its action, and then the low and the high end of field 0, those of field 1, ..
@@ -42,22 +40,7 @@ treeAt rules f n ps = tree firstOf (fieldsAt rules f n) ps
 unfoldable pub underAt : List ℕ → ℕ → ℕ → List ℕ → ℕ → Tree ℕ
 underAt rules f n ps e = treeAt rules (f + 1) (n - 1) (keep (covers (fieldAt rules f) e) ps)
 
--- the greater of x and m, where x is below b; else m
-abbrev pub better : ℕ → ℕ → ℕ → ℕ
-better b x m = cond (ltb x b) (cond (ltb m x) x m) m
-
--- one more than the greatest end e of the rules with e + 1 < b; 0 where there is none
-unfoldable pub lower : Field (List ℕ) ℕ → ℕ → List ℕ → ℕ
-lower f b [] = 0
-lower f b (p ∷ ps) = better b (f .high p + 1) (better b (f .low p) (lower f b ps))
-
--- what lower_end answers: that, and besides that every end is a word
-pub record Lower (rules : List ℕ) (f b : ℕ) (ps : List ℕ) (r : ℕ) : Type 0 where
-  pub is : r ≡ lower (fieldAt rules f) b ps
-  pub small : r ≤ 4294967296
-  pub words : (e : ℕ) → In e (ends (fieldAt rules f) ps) → e < 4294967296
-
--- lows and highs are the ends of the rules at the places ps in field f, in their order
-pub record Copies (rules : List ℕ) (f : ℕ) (ps lows highs : List ℕ) : Type 0 where
-  pub low : lows ≡ map (lowOf rules f) ps
-  pub high : highs ≡ map (highOf rules f) ps
+-- the ranges of the rules at the places ps in field f give the end e alone, and all of these rules cover it
+pub record Flat (rules : List ℕ) (f : ℕ) (ps : List ℕ) (e : ℕ) : Type 0 where
+  pub one : ends (fieldAt rules f) ps ≡ e ∷ []
+  pub all : keep (covers (fieldAt rules f) e) ps ≡ ps

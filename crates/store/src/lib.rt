@@ -119,8 +119,12 @@ fn write_front(words: &mut [u32], c: u32, n: u32, rows: &[u32])
     ensures { λ _. ⌜ now (words .exit) ≡ headText c n ++ now (rows .entry) ⌝ }
 {
     let mut i: usize = 0;
-    while i < 1022 {
+    while i < 47 {
         words[i] = front_word(c, n, rows, i);
+        i += 1;
+    }
+    while i < 1022 {
+        words[i] = rows[i - 47];
         i += 1;
     }
 }

@@ -1,6 +1,6 @@
 // The table of a store in its rows: 65 rows of 15 words, the default's first, then the rules by rising number, then rows of zeros. Read, held to the limits, searched, and edited by making the rows anew beside the old ones.
 ghost use mathlib.Core.Path.{_≡_};
-ghost use mathlib.Core.Bool.{true, cond};
+ghost use mathlib.Core.Bool.{true};
 ghost use mathlib.Core.List.{[]};
 ghost use Prim.Native.Nat.{suc, _+_, _-_, _*_, _≤_, _<_, min};
 ghost use lib.Dec.{ltb};
@@ -9,7 +9,7 @@ ghost use Rattle.model.specs.Lists.{same, upTo};
 ghost use Rattle.model.specs.Rules.{rangesRight};
 ghost use Rattle.model.specs.Table.{defaultRule, fieldsFrom, risingFrom, allRight};
 ghost use Rattle.rows.specs.Rows.{numberOf, actionOf};
-ghost use Rattle.table.specs.Rows.{kindOf, given, rowWord, rowsWord, rowsText, ruleIn, tableIn, places as placesOf, ahead, putWord, takeWord, Says, Right, Zeros};
+ghost use Rattle.table.specs.Rows.{kindOf, given, rowWord, rowsWord, rowsText, ruleIn, tableIn, places as placesOf, ahead, putWord, takeWord, Copied, Says, Right, Zeros};
 
 // A rule: five low ends and five high ends besides its number and its action.
 #[repr(C)]
@@ -214,30 +214,46 @@ pub fn before(rows: &[u32], n: u32, tops: &[u32], x: u32) -> u32
     p
 }
 
+// How far words can be copied: from a place on to an end, where others are read from a start on and there are so many.
+fn reach(at: usize, end: usize, start: usize, there: usize) -> usize
+    requires { ⌜ at ≤ end ⌝ }
+    ensures { λ r. ⌜ (at ≤ r) × (r ≤ end) × (start + (r - at) ≤ start + (there - start)) × (r < end → there ≤ start + (r - at)) ⌝ }
+{
+    if there <= start {
+        return at;
+    }
+    if there - start < end - at {
+        return at + (there - start);
+    }
+    end
+}
+
+// Writes into out, from a place on to an end, the words of a slice from a start on; zeros where it has no more.
+fn copy(from: &[u32], start: usize, out: &mut [u32], at: usize, end: usize)
+    requires { ⌜ (at ≤ end) × (end ≤ length (now out)) × (start ≤ 975) ⌝ }
+    ensures { λ _. ⌜ Copied (now (from .entry)) start (now (out .entry)) (now (out .exit)) at end ⌝ }
+{
+    let stop = reach(at, end, start, from.len());
+    let mut i = at;
+    while i < stop {
+        out[i] = from[start + (i - at)];
+        i += 1;
+    }
+    while i < end {
+        out[i] = 0;
+        i += 1;
+    }
+}
+
 // Writes the rows with a row put in at a place.
 pub fn put(rows: &[u32], place: u32, row: &[u32], out: &mut [u32])
     requires { ⌜ (place ≤ 64) × (length (now out) ≡ 975) ⌝ }
     ensures { λ _. ⌜ now (out .exit) ≡ upTo 975 (putWord (now (rows .entry)) place (now (row .entry))) ⌝ }
 {
     let p = 15 * (place as usize);
-    let mut i: usize = 0;
-    while i < 975 {
-        out[i] = put_word(rows, p, row, i);
-        i += 1;
-    }
-}
-
-fn put_word(rows: &[u32], p: usize, row: &[u32], i: usize) -> u32
-    requires { ⌜ p < 1000 ⌝ }
-    ensures { λ r. ⌜ r ≡ cond (ltb i p) (getD (now (rows .entry)) i 0) (cond (ltb i (p + 15)) (getD (now (row .entry)) (i - p) 0) (getD (now (rows .entry)) (i - 15) 0)) ⌝ }
-{
-    if i < p {
-        return word(rows, i);
-    }
-    if i < p + 15 {
-        return word(row, i - p);
-    }
-    word(rows, i - 15)
+    copy(rows, 0, out, 0, p);
+    copy(row, 0, out, p, p + 15);
+    copy(rows, p, out, p + 15, 975);
 }
 
 // Writes the rows without the row at a place.
@@ -246,21 +262,8 @@ pub fn take_out(rows: &[u32], place: u32, out: &mut [u32])
     ensures { λ _. ⌜ now (out .exit) ≡ upTo 975 (takeWord (now (rows .entry)) place) ⌝ }
 {
     let p = 15 * (place as usize);
-    let mut i: usize = 0;
-    while i < 975 {
-        out[i] = take_word(rows, p, i);
-        i += 1;
-    }
-}
-
-fn take_word(rows: &[u32], p: usize, i: usize) -> u32
-    requires { ⌜ i < 1000 ⌝ }
-    ensures { λ r. ⌜ r ≡ cond (ltb i p) (getD (now (rows .entry)) i 0) (getD (now (rows .entry)) (i + 15) 0) ⌝ }
-{
-    if i < p {
-        return word(rows, i);
-    }
-    word(rows, i + 15)
+    copy(rows, 0, out, 0, p);
+    copy(rows, p + 15, out, p, 975);
 }
 
 // Writes all places of a table of n rules, by rising number, the default's last.

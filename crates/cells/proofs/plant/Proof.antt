@@ -10,15 +10,11 @@ pub plant-spec : {M : Type 1} → statement M
 plant-spec =
     tie.close
     (tie.spec
-    (λ c κs.
-    let r = c .before .before .before .before .pre in
-    (record { a = _; more = _; q = _; state = part-spare _ (r .0) (r .2) (r .1) }, r .3, omega (arith, r .4)))
-    (λ c.
-    let b = c .before .before in
-    let r = b .before .before .before .before .before .pre in
-    omega (arith, b .build-chain .kept .0, part-spare stop (r .0) (omega arith) (r .1) .tot))
     (λ c. search needs)
-    (λ c.
-    let b = c .before .before in
-    let r = b .before .before .before .before .before .pre in
-    part-planted (b .build-chain .ensures _ _ _ (part-spare _ (r .0) (r .2) (r .1)))))
+    -- build-chain-requires
+    (λ c κs. let r = c .before .before .before .before .before .pre in (record { a = _; more = _; q = _; state = part-spare _ (r .0) (r .2) (r .1) }, r .3, omega (arith, r .4), search needs))
+    -- slice-write-words
+    (λ c. let r = c .before .before .before .before .before .before .before .before .before .pre in omega (arith, c .before .before .before .build-chain .kept .0, part-spare stop (r .0) (omega arith) (r .1) .tot))
+    (λ c. search needs)
+    -- returns
+    (λ c. let r = c .before .before .before .before .before .before .before .before .before .pre in part-planted (c .before .before .before .build-chain .ensures _ _ _ (part-spare _ (r .0) (r .2) (r .1)))))

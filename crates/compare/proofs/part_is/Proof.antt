@@ -9,30 +9,25 @@ use Rattle.compare.proofs.part_is.Statement.{statement}
 use Rattle.compare.proofs.part_is.Tie as tie
 
 -- the tree that is compared
-abbrev tree-of : tie.After-compare-chain → Tree ℕ
-tree-of h = let a = h .before .before .before .before .args in treeAt (a .rules .now) 0 (a .fields) (a .set .now)
+abbrev tree-of : tie.Start → Tree ℕ
+tree-of s = let a = s .args in treeAt (a .rules .now) 0 (a .fields) (a .set .now)
 
 pub part-is-spec : {M : Type 1} → statement M
 part-is-spec =
     tie.close
     (tie.spec
+    (λ c. search needs)
     (λ c κs. search needs)
     (λ c. search needs)
     (λ c. search needs)
-    -- returns: the tree differs
-    (λ c. part-differs _ _ _ (c .before .before .compare-chain .ensures) (c .enum-told .given .1))
+    -- returns
+    (λ c. part-differs _ _ _ (c .before .before .before .compare-chain .ensures) (c .enum-told .given .1))
     (λ c. search needs)
-    -- returns-2: the free chain begins elsewhere
-    (λ c.
-    let h = c .before .before .before .before .before in
-    part-no-past _ _ (tree-of h) (h .compare-chain .ensures) (c .before .before .before .past .given .1) (c .if1 .taken))
+    -- returns-2
+    (λ c. part-no-past _ _ (tree-of (c .before .before .before .before .before .before .before .before .before .before .before)) (c .before .before .before .before .before .before .compare-chain .ensures) (c .before .before .before .past .given .1) (c .if1 .taken))
     (λ c. search needs)
-    -- returns-3: a walk begins elsewhere
-    (λ c.
-    let h = c .before .before .before .before .before .before .before in
-    part-no-low _ _ (tree-of h) (h .compare-chain .ensures) (c .before .before .before .before .before .past .given .1) (c .if2 .taken))
+    -- returns-3
+    (λ c. part-no-low _ _ (tree-of (c .before .before .before .before .before .before .before .before .before .before .before .before .before)) (c .before .before .before .before .before .before .before .before .compare-chain .ensures) (c .before .before .before .before .before .past .given .1) (c .if2 .taken))
     (λ c κs. search needs)
     -- returns-4
-    (λ c.
-    let h = c .before .before .before .before .before .before .before .before in
-    part-rest _ _ (tree-of h) (h .compare-chain .ensures) (c .before .before .before .before .before .before .past .given .1) (h .before .before .before .before .pre .0) (c .before .before .before .if1 .left) (c .before .if2 .left) _ (c .free-from .ensures)))
+    (λ c. part-rest _ _ (tree-of (c .before .before .before .before .before .before .before .before .before .before .before .before .before .before)) (c .before .before .before .before .before .before .before .before .before .compare-chain .ensures) (c .before .before .before .before .before .before .past .given .1) (c .before .before .before .before .before .before .before .before .before .before .before .before .before .before .pre .0) (c .before .before .before .if1 .left) (c .before .if2 .left) _ (c .free-from .ensures)))

@@ -1,16 +1,22 @@
--- `count::count_chain` meets its contract: the number of fields left falls with each call. The loop's invariant is `Counted`, and its measure the next end.
+-- `count::count_chain` meets its contract: the number of fields left falls with each call. The loop's invariant is `Counted`, and its measure the ends that are left.
 -- Assumes nothing.
-use Prim.Native.Nat.{ℕ, _<_}
+use Prim.Native.Nat.{ℕ, _-_, _<_}
+use mathlib.Core.Path.{_≡_, _∙_}
+use lib.ListN.{length}
+use native.Mathlib.Omega.{arith}
 use borrow.Author.Needs.{needs}
 use borrow.Fn.Kinds.{In}
 use borrow.Fn.PlainCycle.{Measures, is, falls, and}
-use Rattle.rows.proofs.Lower.{lower-less}
-use Rattle.count.proofs.Counted.{Counted, counted-none, counted-start, counted-end, counted-full, counted-on}
+use Rattle.rows.proofs.Insert.{end-at}
+use Rattle.count.proofs.Counted.{Counted, counted-none, flat-full, flat-on, counted-start, counted-end, counted-full, counted-on}
 use Rattle.count.proofs.count_chain.Reads as count-chain
 use Rattle.count.proofs.count_chain.Kinds as count-chain-kinds
 use Rattle.count.proofs.+count_chain.Lts-count_chain as count-chain-lts
 use Rattle.count.proofs.count_ends.Reads as count-ends-reads
-use Rattle.rows.proofs.lower_end.Reads as lower-end-reads
+use Rattle.rows.proofs.ends_of.Reads as ends-of-reads
+use Rattle.rows.proofs.first_place.Reads as first-place-reads
+use Rattle.rows.proofs.flat.Reads as flat-reads
+use Rattle.rows.proofs.high.Reads as high-reads
 use Rattle.rows.proofs.narrow.Reads as narrow-reads
 use Rattle.count.proofs.+count_chain.{statement}
 use Rattle.count.proofs.+count_chain.Tie.{close}
@@ -25,42 +31,76 @@ abbrev below : ℕ → In 2 count-chain-kinds.ps
 below t = and 2 count-chain-kinds.ps (falls 2 count-chain-kinds.ps _<_ μ-count-chain t) count-chain.Pre
 
 abbrev Inv-loop : count-chain-lts.InvT-loop
-Inv-loop rules set field left room n₀ after₀ n after = Counted rules set field left room n after
+Inv-loop rules set field left room e ends i₀ under₀ n₀ i under n = Counted rules set field left room n i × (length under ≡ 65)
 
 abbrev μ-loop : count-chain-lts.MeasureT-loop
-μ-loop rules set field left room n₀ after₀ n after = after
+μ-loop rules set field left room e ends i₀ under₀ n₀ i under n = i
 
 abbrev callees : ℕ → count-chain-lts.Claims
-callees t = (count-ends-reads.Asked, count-ends-reads.Learnt, lower-end-reads.Asked, lower-end-reads.Learnt, narrow-reads.Asked, narrow-reads.Learnt, below t, count-chain.Post)
+callees t = (
+  first-place-reads.Asked,
+  first-place-reads.Learnt,
+  high-reads.Asked,
+  high-reads.Learnt,
+  flat-reads.Asked,
+  flat-reads.Learnt,
+  below t,
+  count-chain.Post,
+  count-ends-reads.Asked,
+  count-ends-reads.Learnt,
+  ends-of-reads.Asked,
+  ends-of-reads.Learnt,
+  narrow-reads.Asked,
+  narrow-reads.Learnt,
+)
 
 pub +count-chain-spec : {M : Type 1} → statement M
 +count-chain-spec = close μ-count-chain λ t. count-chain-lts.spec (callees t) (at t) count-chain.Post Inv-loop μ-loop
     (λ c. counted-none _ _ _ _ _ (c .if1 .taken))  -- returns
-    (λ c κs. search needs)
-    (λ c. rw (c .before .if2 .taken) (c .count-ends .ensures))  -- returns-2: the last field
-    (λ c κs. search needs)
-    (λ c. counted-start _ _ _ _ _ _ (c .lower-end .ensures))  -- loop-holds
-    (λ c. search needs)
-    -- returns-3
-    (λ c. let n = c .before in counted-full (n .before .loop .inv) (n .before .before .before .before .if1 .left) (n .loop-test .taken) (search needs))
-    (λ c. search needs)
-    (λ c. search needs)
-    (λ c. search needs)
-    (λ c. search needs)
-    (λ c. search needs)
-    (λ c κs. search needs)
-    (λ c. search needs)
+    (λ c κs. search needs)  -- first-place-requires
+    (λ c κs. search needs)  -- high-requires
+    (λ c κs. search needs)  -- flat-requires
+    (λ c. flat-full _ _ _ _ _ (c .before .before .before .before .before .if1 .left) (c .before .before .flat .ensures (c .before .if2 .taken)) (c .if3 .taken))  -- returns-2
+    (λ c. search needs)  -- add-count-chain
+    (λ c. search needs)  -- sub-count-chain
+    (λ c. search needs)  -- sub-count-chain-2
+    (λ c κs. search needs)  -- count-chain-requires
+    (λ c. search needs)  -- add-result
+    (λ c. flat-on _ _ _ _ _ (c .before .before .before .before .before .before .if1 .left) (c .before .before .before .flat .ensures (c .before .before .if2 .taken)) (c .before .if3 .left) _ (c .count-chain .ensures))  -- returns-3
+    (λ c κs. search needs)  -- count-ends-requires
+    (λ c. rw (c .before .if4 .taken) (c .count-ends .ensures))  -- returns-4
+    (λ c. search needs)  -- slice-aggregate-ends-of
+    (λ c κs. search needs)  -- ends-of-requires
+    (λ c. (counted-start _ _ _ _ _ _ (c .before .ends-of .ensures .1), search needs))  -- loop-holds
+    (λ c. search needs)  -- add-result-2
+    -- returns-5
+    (λ c.
+    let l = c .before .before in
+    counted-full (l .loop .inv .0) (l .before .before .before .before .before .before .before .before .before .if1 .left) (c .before .loop-test .taken) (c .if5 .taken))
+    (λ c. search needs)  -- sub-i
+    (λ c. search needs)  -- sub-spare
+    (λ c. search needs)  -- sub-spare-2
+    (λ c. search needs)  -- mul-narrow
+    (λ c. search needs)  -- array-read-narrow
+    (λ c. search needs)  -- slice-aggregate-narrow
+    (λ c κs. search needs)  -- narrow-requires
+    (λ c. search needs)  -- array-share-prefix-under
     (λ c. c .before .before .narrow .ensures .2)  -- slice-aggregate-count-chain
-    (λ c. search needs)
-    (λ c. search needs)
-    (λ c κs. search needs)
-    (λ c. search needs)
-    (λ c. search needs)
-    (λ c κs. search needs)
-    (λ c. lower-less (c .lower-end2 .ensures) (c .before .before .before .before .before .before .before .loop-test .taken))  -- loop-less
+    (λ c. search needs)  -- add-count-chain-2
+    (λ c. search needs)  -- sub-count-chain-3
+    (λ c κs. search needs)  -- count-chain-requires-2
+    (λ c. search needs)  -- add-n
+    (λ c. search needs)  -- add-n-2
+    (λ c. search needs)  -- loop-less
     -- loop-again
     (λ c.
-    let i = c .before .before .before .before .before .before in
-    let n = i .before in
-    counted-on (n .before .loop .inv) (n .before .before .before .before .if1 .left) (n .loop-test .taken) (i .if3 .left) _ (c .before .before .before .before .narrow .ensures .1) _ (c .before .count-chain .ensures) _ (c .lower-end2 .ensures))
-    (λ c. counted-end (c .before .loop .inv) (c .before .before .before .before .if1 .left) (c .loop-test .left))  -- returns-4
+    let l = c .before .before .before .before .before .before .before in
+    let p = c .before .before .before .before .before .before .loop-test .taken in
+    let o = l .before .before .ends-of in
+    let m = c .before .before .before .narrow in
+    let k : l .loop .i - 1 < o .result = omega (arith, l .loop .inv .0 .most, o .ensures .1) in
+    (counted-on (l .loop .inv .0) (l .before .before .before .before .before .before .before .before .before .if1 .left) p (end-at _ (o .result) (l .loop .i - 1) (o .ensures .2) k) (c .before .before .before .before .before .if5 .left) _ (m .ensures .1) _ (c .count-chain2 .ensures), m .kept .1 .1 .1 .1 .0 ∙ l .loop .inv .1))
+    -- returns-6
+    (λ c.
+    let l = c .before in
+    counted-end (l .loop .inv .0) (l .before .before .before .before .before .before .before .before .before .if1 .left) (c .loop-test .left))
