@@ -4,6 +4,7 @@ ghost use mathlib.Core.Bool.{cond};
 ghost use Prim.Native.Nat.{_<_};
 ghost use lib.Dec.{ltb};
 ghost use Rattle.tally.specs.Tally.{unused, keyed, placeOf, addedAt, hasPlace, counted, tallyAnswer, talliesLeft, tallies, cleared, difference as differenceOf};
+use header::Header;
 use lookup::Found;
 
 // A tally record: 65 places, one for each rule of a full table and one for the default. A place is unused where its key is above 65,535, whatever it is; else it is the tally of the rule with that number. The words may hold any numbers.
@@ -109,7 +110,17 @@ pub fn lookup_packet(
 ) -> Found
     ensures { λ r. ⌜ (r ≡ tallyAnswer (now (words .entry)) (now (packet .entry)) (tallies (now (key .entry)) (now (packets .entry)) (now (bytes .entry)))) × (tallies (now (key .exit)) (now (packets .exit)) (now (bytes .exit)) ≡ talliesLeft (now (words .entry)) (now (packet .entry)) (tallies (now (key .entry)) (now (packets .entry)) (now (bytes .entry)))) ⌝ }
 {
-    let found = lookup::lookup_packet(words, packet);
+    let Header::Values(p) = header::read_header(packet) else {
+        return lookup::refuse(7);
+    };
+    let found = lookup::lookup(
+        words,
+        p.destination,
+        p.source,
+        p.protocol,
+        p.destination_port,
+        p.source_port,
+    );
     if found.answer != 0 {
         return found;
     }

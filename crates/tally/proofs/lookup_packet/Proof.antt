@@ -1,7 +1,10 @@
 -- `tally::lookup_packet` meets its contract: one law for each answer.
 -- Assumes nothing.
-use mathlib.Core.Path.{sym, _∙_}
+use mathlib.Core.Path.{sym, ap, _∙_}
+use native.Mathlib.Omega.{arith}
 use borrow.Author.Needs.{needs}
+use Rattle.lookup.specs.declared.Found.{Found}
+use Rattle.lookup.proofs.Steps.{no-values, by-values}
 use Rattle.tally.proofs.Steps.{long, refused-before, counts, no-place}
 use Rattle.tally.proofs.lookup_packet.Statement.{statement}
 use Rattle.tally.proofs.lookup_packet.Tie as tie
@@ -11,21 +14,30 @@ lookup-packet-spec =
     tie.close
     (tie.spec
     (λ c κs. search needs)
-    -- the lookup is refused
-    (λ c. refused-before _ _ _ (c .before .before .lookup-packet .ensures) _ (c .if1 .taken))
-    (λ c κs. long _ _ _ (c .before .before .lookup-packet .ensures) (c .if1 .left))
+    (λ c. search needs)
+    (λ c. search needs)
+    (λ c κs. search needs)
+    -- the header gives no values
+    (λ c.
+    refused-before _ _ _ (c .refuse .ensures ∙ no-values _ _ (sym (c .before .enum-told .given .1) ∙ c .before .before .before .read-header .ensures)) _ (λ z. omega (arith, z, ap (λ (g : Found). g .answer) (c .refuse .ensures))))
+    (λ c κs. search needs)
+    -- the lookup of its values is refused
+    (λ c. let l = c .before .before in refused-before _ _ _ (l .lookup .ensures ∙ by-values _ _ _ (sym (l .before .before .p .given .1) ∙ l .before .before .before .before .read-header .ensures)) _ (c .if1 .taken))
+    (λ c κs. let l = c .before .before in long _ _ _ (l .lookup .ensures ∙ by-values _ _ _ (sym (l .before .before .p .given .1) ∙ l .before .before .before .before .read-header .ensures)) (c .if1 .left))
     (λ c κs. search needs)
     -- the rule's number has a place
     (λ c.
     let counted = c .before .count .ensures in
     let measured = c .before .before .before .before .before in
     let looked = measured .before in
-    counts _ _ _ (looked .before .before .lookup-packet .ensures) _ (looked .if1 .left) _ (measured .packet-length .ensures .0) _ (counted .1) (sym (counted .0) ∙ c .if2 .taken))
+    let l = looked .before .before in
+    counts _ _ _ (l .lookup .ensures ∙ by-values _ _ _ (sym (l .before .before .p .given .1) ∙ l .before .before .before .before .read-header .ensures)) _ (looked .if1 .left) _ (measured .packet-length .ensures .0) _ (counted .1) (sym (counted .0) ∙ c .if2 .taken))
     (λ c κs. search needs)
     -- it has none
     (λ c.
     let counted = c .before .before .count .ensures in
     let measured = c .before .before .before .before .before .before in
     let looked = measured .before in
-    rw (c .refuse .ensures)
-    (no-place _ _ _ (looked .before .before .lookup-packet .ensures) _ (looked .if1 .left) _ (measured .packet-length .ensures .0) _ (counted .1) (sym (counted .0) ∙ c .before .if2 .left))))
+    let l = looked .before .before in
+    rw (c .refuse2 .ensures)
+    (no-place _ _ _ (l .lookup .ensures ∙ by-values _ _ _ (sym (l .before .before .p .given .1) ∙ l .before .before .before .before .read-header .ensures)) _ (looked .if1 .left) _ (measured .packet-length .ensures .0) _ (counted .1) (sym (counted .0) ∙ c .before .if2 .left))))
