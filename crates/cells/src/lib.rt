@@ -136,6 +136,10 @@ fn build_chain(
     let high = rows::high(rules, rows::first_place(set), field);
     if rows::flat(rules, set, field, high) {
         let one = build_one(words, c, high);
+        if left == 1 {
+            write_down(words, one, rows::first_place(set));
+            return one;
+        }
         let below = build_chain(words, c, rules, set, field + 1, left - 1, ends);
         write_down(words, one, below);
         return one;
