@@ -197,11 +197,14 @@ fn free_chain(words: &mut [u32], c: u32, first: u32, fields: u32)
     give_run(words, c, first);
 }
 
-// Frees all that is below the location at cell k.
+// Frees all that is below the location at cell k. In the last field that is nothing.
 fn free_location(words: &mut [u32], c: u32, k: u32, fields: u32)
     requires { ⌜ SomeLoc (now words) fields k c ⌝ }
     ensures { λ _. ⌜ Drops (now (words .entry)) (now (words .exit)) (fields - 1) (word (now (words .entry)) k 2) c ⌝ }
 {
+    if fields == 1 {
+        return;
+    }
     let down = word_of(words, k, 2);
     free_chain(words, c, down, fields - 1);
 }
