@@ -136,6 +136,10 @@ fn build_chain(
     let high = rows::high(rules, rows::first_place(set), field);
     if rows::flat(rules, set, field, high) {
         let one = build_one(words, c, high);
+        if left == 1 {
+            write_down(words, one, rows::first_place(set));
+            return one;
+        }
         let below = build_chain(words, c, rules, set, field + 1, left - 1, ends);
         write_down(words, one, below);
         return one;
@@ -193,11 +197,14 @@ fn free_chain(words: &mut [u32], c: u32, first: u32, fields: u32)
     give_run(words, c, first);
 }
 
-// Frees all that is below the location at cell k.
+// Frees all that is below the location at cell k. In the last field that is nothing.
 fn free_location(words: &mut [u32], c: u32, k: u32, fields: u32)
     requires { ⌜ SomeLoc (now words) fields k c ⌝ }
     ensures { λ _. ⌜ Drops (now (words .entry)) (now (words .exit)) (fields - 1) (word (now (words .entry)) k 2) c ⌝ }
 {
+    if fields == 1 {
+        return;
+    }
     let down = word_of(words, k, 2);
     free_chain(words, c, down, fields - 1);
 }

@@ -137,6 +137,12 @@ fn compare_chain(
         if !head_is(words, c, k, high, c) {
             return Told::Differs;
         }
+        if left == 1 {
+            if !rest_is(words, c, k, rows::first_place(set)) {
+                return Told::Differs;
+            }
+            return Told::Same(k + 1, k);
+        }
         let Told::Same(past, down) = compare_chain(
             words,
             c,

@@ -31,6 +31,9 @@ pub fn count_chain(rules: &[u32], set: &[u32], field: u32, left: u32, room: u32)
         if room == 0 {
             return 1;
         }
+        if left == 1 {
+            return 1;
+        }
         return 1 + count_chain(rules, set, field + 1, left - 1, room - 1);
     }
     if left == 1 {

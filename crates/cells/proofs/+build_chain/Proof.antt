@@ -49,10 +49,10 @@ callees t = (
   flat-reads.Learnt,
   build-one-reads.Asked,
   build-one-reads.Learnt,
-  below-t t,
-  build-chain.Post,
   write-down-reads.Asked,
   write-down-reads.Learnt,
+  below-t t,
+  build-chain.Post,
   build-run-reads.Asked,
   build-run-reads.Learnt,
   word-of-reads.Asked,
@@ -115,18 +115,22 @@ pub +build-chain-spec : {M : Type 1} → statement M
     (λ c κs. search needs)  -- high-requires
     (λ c κs. search needs)  -- flat-requires
     (λ c κs. one-first (c .before .before .before .before .before .if1 .left) (c .before .before .flat .ensures (c .before .if2 .taken)) (c .before .before .before .before .before .before .before .before .before .before .pre .1 .0))  -- build-one-requires
-    (λ c. omega (arith, c .before .before .before .before .before .before .before .before .before .before .before .before .before .before .pre .1 .2, pos-of-ne-zero (c .before .before .before .before .before .before .before .before .before .if1 .left)))  -- add-build-chain
-    (λ c. pos-of-ne-zero (c .before .before .before .before .before .before .before .before .before .if1 .left))  -- sub-build-chain
+    (λ c κs. search needs)  -- first-place-requires-3
+    (λ c κs. let r = c .before .before .before .before .before .before .before .before .before .before .before .before .before .before .before .before .pre .1 .0 in one-room (r .more) (c .before .before .before .before .before .before .before .before .before .before .before .if1 .left) (c .before .before .before .before .before .before .before .before .flat .ensures (c .before .before .before .before .before .before .before .if2 .taken)) (r .state) (c .before .before .before .before .before .build-one .ensures .0) (c .before .before .before .before .before .build-one .ensures .1) _ _ (λ a n q s. built-none _ _ _ _ n (omega (arith, c .before .before .if3 .taken)) (c .first-place3 .ensures) s))  -- write-down-requires
+    (λ c. c .before .before .write-down .kept .0 ∙ c .before .before .before .before .before .before .before .before .build-one .kept .0)  -- same-length
+    (λ c. λ a n q s. rw (c .before .before .write-down .ensures) (one-built n (c .before .before .before .before .before .before .before .before .before .before .before .before .before .before .if1 .left) (c .before .before .before .before .before .before .before .before .before .before .before .flat .ensures (c .before .before .before .before .before .before .before .before .before .before .if2 .taken)) s (c .before .before .before .before .before .before .before .before .build-one .ensures .0) (c .before .before .before .before .before .before .before .before .build-one .ensures .1) _ _ (λ a n q s. built-none _ _ _ _ n (omega (arith, c .before .before .before .before .before .if3 .taken)) (c .before .before .before .first-place3 .ensures) s)))  -- returns-2
+    (λ c. omega (arith, c .before .before .before .before .before .before .before .before .before .before .before .before .before .before .before .pre .1 .2, pos-of-ne-zero (c .before .before .before .before .before .before .before .before .before .before .if1 .left)))  -- add-build-chain
+    (λ c. pos-of-ne-zero (c .before .before .before .before .before .before .before .before .before .before .if1 .left))  -- sub-build-chain
     -- build-chain-requires
     (λ c κs.
-    let s = c .before .before .before .before .before .before .before .before .before .before .before .before .before .before .before in
+    let s = c .before .before .before .before .before .before .before .before .before .before .before .before .before .before .before .before in
     let r = s .pre .1 .0 in
-    let l = pos-of-ne-zero (c .before .before .before .before .before .before .before .before .before .before .if1 .left) in
-    (omega (arith, s .pre .0), (one-spare (r .more) (c .before .before .before .before .before .before .before .before .before .before .if1 .left) (c .before .before .before .before .before .before .before .flat .ensures (c .before .before .before .before .before .before .if2 .taken)) (r .state) (c .before .before .before .before .build-one .ensures .0) (c .before .before .before .before .build-one .ensures .1), s .pre .1 .1, omega (arith, s .pre .1 .2), s .pre .1 .3)))
-    (λ c κs. let r = c .before .before .before .before .before .before .before .before .before .before .before .before .before .before .before .before .before .before .before .before .before .pre .1 .0 in one-room (r .more) (c .before .before .before .before .before .before .before .before .before .before .before .before .before .before .before .before .if1 .left) (c .before .before .before .before .before .before .before .before .before .before .before .before .before .flat .ensures (c .before .before .before .before .before .before .before .before .before .before .before .before .if2 .taken)) (r .state) (c .before .before .before .before .before .before .before .before .before .before .build-one .ensures .0) (c .before .before .before .before .before .before .before .before .before .before .build-one .ensures .1) _ _ (c .before .before .before .before .before .build-chain .ensures))  -- write-down-requires
-    (λ c. c .before .before .write-down .kept .0 ∙ (c .before .before .before .before .before .before .before .before .build-chain .kept .0 ∙ c .before .before .before .before .before .before .before .before .before .before .before .before .before .build-one .kept .0))  -- same-length
-    (λ c. c .before .before .before .before .before .before .before .before .build-chain .kept .1 .1 .1 .1 .1 .1 .0)  -- same-length-2
-    (λ c. λ a n q s. rw (c .before .before .write-down .ensures) (one-built n (c .before .before .before .before .before .before .before .before .before .before .before .before .before .before .before .before .before .before .before .if1 .left) (c .before .before .before .before .before .before .before .before .before .before .before .before .before .before .before .before .flat .ensures (c .before .before .before .before .before .before .before .before .before .before .before .before .before .before .before .if2 .taken)) s (c .before .before .before .before .before .before .before .before .before .before .before .before .before .build-one .ensures .0) (c .before .before .before .before .before .before .before .before .before .before .before .before .before .build-one .ensures .1) _ _ (c .before .before .before .before .before .before .before .before .build-chain .ensures)))  -- returns-2
+    let l = pos-of-ne-zero (c .before .before .before .before .before .before .before .before .before .before .before .if1 .left) in
+    (omega (arith, s .pre .0), (one-spare (r .more) (c .before .before .before .before .before .before .before .before .before .before .before .if1 .left) (c .before .before .before .before .before .before .before .before .flat .ensures (c .before .before .before .before .before .before .before .if2 .taken)) (r .state) (c .before .before .before .before .before .build-one .ensures .0) (c .before .before .before .before .before .build-one .ensures .1), s .pre .1 .1, omega (arith, s .pre .1 .2), s .pre .1 .3)))
+    (λ c κs. let r = c .before .before .before .before .before .before .before .before .before .before .before .before .before .before .before .before .before .before .before .before .before .before .pre .1 .0 in one-room (r .more) (c .before .before .before .before .before .before .before .before .before .before .before .before .before .before .before .before .before .if1 .left) (c .before .before .before .before .before .before .before .before .before .before .before .before .before .before .flat .ensures (c .before .before .before .before .before .before .before .before .before .before .before .before .before .if2 .taken)) (r .state) (c .before .before .before .before .before .before .before .before .before .before .before .build-one .ensures .0) (c .before .before .before .before .before .before .before .before .before .before .before .build-one .ensures .1) _ _ (c .before .before .before .before .before .build-chain .ensures))  -- write-down-requires-2
+    (λ c. c .before .before .write-down2 .kept .0 ∙ (c .before .before .before .before .before .before .before .before .build-chain .kept .0 ∙ c .before .before .before .before .before .before .before .before .before .before .before .before .before .before .build-one .kept .0))  -- same-length-2
+    (λ c. c .before .before .before .before .before .before .before .before .build-chain .kept .1 .1 .1 .1 .1 .1 .0)  -- same-length-3
+    (λ c. λ a n q s. rw (c .before .before .write-down2 .ensures) (one-built n (c .before .before .before .before .before .before .before .before .before .before .before .before .before .before .before .before .before .before .before .before .if1 .left) (c .before .before .before .before .before .before .before .before .before .before .before .before .before .before .before .before .before .flat .ensures (c .before .before .before .before .before .before .before .before .before .before .before .before .before .before .before .before .if2 .taken)) s (c .before .before .before .before .before .before .before .before .before .before .before .before .before .before .build-one .ensures .0) (c .before .before .before .before .before .before .before .before .before .before .before .before .before .before .build-one .ensures .1) _ _ (c .before .before .before .before .before .before .before .before .build-chain .ensures)))  -- returns-3
     (λ c. omega (arith, c .before .before .before .before .before .before .before .before .before .before .pre .1 .0 .state .tot))  -- slice-read-k
     (λ c κs. let r = c .before .before .before .before .before .before .before .before .before .before .before .before .pre .1 .0 in (record { a = _; more = _; q = _; state = split _ _ _ _ (r .more) (c .before .before .before .before .before .before .before .if1 .left) (r .state) }, c .before .before .before .before .before .before .before .before .before .before .before .before .pre .1 .1, c .before .before .before .before .before .before .before .before .before .before .before .before .pre .1 .3))  -- build-run-requires
     (λ c. omega (arith, c .before .before .before .before .before .build-run .kept .0, c .before .before .before .before .before .before .before .before .before .before .before .before .before .before .before .before .before .before .pre .1 .0 .state .tot))  -- slice-read-past
@@ -144,13 +148,13 @@ pub +build-chain-spec : {M : Type 1} → statement M
     let l = some-left t (c .before .before .before .before .before .before .before .before) in
     let m = c .before .before .before .before .narrow in
     (omega (arith, s .pre .0), (turn-spare (here t (c .before .before .before .before .before .before .before .before)) _ (under-is _ _ _ _ _ _ (rw (c .before .before .before .before .before .before .word-of .ensures) at (c .before .before .before .before .narrow .ensures .1))), omega (arith, m .ensures .0, m .ensures .2, s .pre .1 .1), omega (arith, s .pre .1 .2), c .before .before .before .before .before .before .before .before .before .loop .inv .2)))
-    (λ c κs. down-room (here t (c .before .before .before .before .before .before .before .before .before .before .before .before .before .before)) _ (under-is _ _ _ _ _ _ (rw (c .before .before .before .before .before .before .before .before .before .before .before .before .word-of .ensures) at (c .before .before .before .before .before .before .before .before .before .before .narrow .ensures .1))) _ _ (c .before .before .before .before .before .build-chain2 .ensures))  -- write-down-requires-2
+    (λ c κs. down-room (here t (c .before .before .before .before .before .before .before .before .before .before .before .before .before .before)) _ (under-is _ _ _ _ _ _ (rw (c .before .before .before .before .before .before .before .before .before .before .before .before .word-of .ensures) at (c .before .before .before .before .before .before .before .before .before .before .narrow .ensures .1))) _ _ (c .before .before .before .before .before .build-chain2 .ensures))  -- write-down-requires-3
     (λ c. omega (arith, turn-lt (here t (c .before .before .before .before .before .before .before .before .before .before .before .before .before .before .before .before .before)), c .before .before .before .before .before .before .before .before .before .before .before .before .before .before .before .before .before .before .before .before .before .before .before .before .before .before .before .before .before .before .before .before .before .before .before .before .before .pre .1 .0 .state .most))  -- add-k
     (λ c. omega (arith, c .before .before .before .before .before .before .before .before .before .before .before .before .before .before .before .before .before .loop-test .taken))  -- loop-less
-    (λ c. (λ a n q e r. rw (c .before .before .write-down2 .ensures) (filled (turn t (c .before .before .before .before .before .before .before .before .before .before .before .before .before .before .before .before .before) a n q e r) _ (under-is _ _ _ _ _ _ (rw (c .before .before .before .before .before .before .before .before .before .before .before .before .before .before .before .word-of .ensures) at (c .before .before .before .before .before .before .before .before .before .before .before .before .before .narrow .ensures .1))) _ _ (c .before .before .before .before .before .before .before .before .build-chain2 .ensures)), c .before .before .before .before .before .before .before .before .before .before .before .before .before .narrow .kept .1 .1 .1 .1 .0 ∙ c .before .before .before .before .before .before .before .before .before .before .before .before .before .before .before .before .before .before .loop .inv .1, c .before .before .before .before .before .before .before .before .build-chain2 .kept .1 .1 .1 .1 .1 .1 .0 ∙ c .before .before .before .before .before .before .before .before .before .before .before .before .before .before .before .before .before .before .loop .inv .2))  -- loop-again
-    (λ c. let r = c .before .before .before .before .before .before .before .before .before .before .before .before .before .before .before .before .before .before .before .before .pre .1 .0 in c .before .loop .inv .0 (r .a) (r .more) (r .q) (st-head (r .state)) (ran t (c .before) (r .a) (r .more) (r .q) (r .state)) .mid .state .tot ∙ sym (r .state .tot))  -- same-length-3
-    (λ c. c .before .loop .inv .2 ∙ sym (c .before .before .before .before .before .before .before .before .before .before .before .before .before .before .before .before .before .before .before .before .pre .1 .3))  -- same-length-4
-    -- returns-3
+    (λ c. (λ a n q e r. rw (c .before .before .write-down3 .ensures) (filled (turn t (c .before .before .before .before .before .before .before .before .before .before .before .before .before .before .before .before .before) a n q e r) _ (under-is _ _ _ _ _ _ (rw (c .before .before .before .before .before .before .before .before .before .before .before .before .before .before .before .word-of .ensures) at (c .before .before .before .before .before .before .before .before .before .before .before .before .before .narrow .ensures .1))) _ _ (c .before .before .before .before .before .before .before .before .build-chain2 .ensures)), c .before .before .before .before .before .before .before .before .before .before .before .before .before .narrow .kept .1 .1 .1 .1 .0 ∙ c .before .before .before .before .before .before .before .before .before .before .before .before .before .before .before .before .before .before .loop .inv .1, c .before .before .before .before .before .before .before .before .build-chain2 .kept .1 .1 .1 .1 .1 .1 .0 ∙ c .before .before .before .before .before .before .before .before .before .before .before .before .before .before .before .before .before .before .loop .inv .2))  -- loop-again
+    (λ c. let r = c .before .before .before .before .before .before .before .before .before .before .before .before .before .before .before .before .before .before .before .before .pre .1 .0 in c .before .loop .inv .0 (r .a) (r .more) (r .q) (st-head (r .state)) (ran t (c .before) (r .a) (r .more) (r .q) (r .state)) .mid .state .tot ∙ sym (r .state .tot))  -- same-length-4
+    (λ c. c .before .loop .inv .2 ∙ sym (c .before .before .before .before .before .before .before .before .before .before .before .before .before .before .before .before .before .before .before .before .pre .1 .3))  -- same-length-5
+    -- returns-4
     (λ c.
     λ a n q s.
     let b = ran t (c .before) a n q s in

@@ -118,17 +118,19 @@ pub +free-chain+free-location-spec : {M : Type 1} → statement M
     let o = left-over t (g .before .before) a n q t' p h in
     ran-all t' n o (g .give-run .ensures _ _ _ _ (o .rows))))
     (λ t. free-location-lts.spec (location-callees t) (location-at t) free-location.Post
+    -- returns: the last field
+    (λ c. λ a n q u p h. free-none p h (omega (arith, c .if1 .taken)))
     -- word-of-requires
-    (λ c κs. let l = c .before .before .pre .1 in omega (arith, l .inside, l .held .held .state .tot))
+    (λ c κs. let l = c .before .before .before .pre .1 in omega (arith, l .inside, l .held .held .state .tot))
     -- sub-free-chain
-    (λ c. omega (arith, c .before .before .before .before .pre .1 .left))
+    (λ c. omega (arith, c .before .before .before .before .before .pre .1 .left))
     -- free-chain-requires
     (λ c κs.
-    let s = c .before .before .before .before in
+    let s = c .before .before .before .before .before in
     (omega (arith, s .pre .0, s .pre .1 .left), rw (c .before .word-of .ensures) (s .pre .1 .held)))
     -- same-length
     (λ c. c .before .before .free-chain .kept .0)
-    -- returns
+    -- returns-2
     (λ c.
     let f = c .before .before in
     λ a n q u p h. f .free-chain .ensures a n q u p (rw (f .before .before .word-of .ensures) h)))

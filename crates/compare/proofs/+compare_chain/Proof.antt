@@ -1,7 +1,7 @@
 -- `compare::compare_chain` meets its contract. The invariant: the run stands by its ends, and the cells from `k` to `i` stand with all that is below them, which ends before cell `b`. The measures are the fields that are left, and the cells of the run that are left.
 -- Assumes nothing.
 use Prim.Native.Nat.{ℕ, _<_, _-_}
-use mathlib.Core.Path.{_≡_, sym, _∙_}
+use mathlib.Core.Path.{_≡_, refl, sym, _∙_}
 use native.Mathlib.Omega.{arith}
 use lib.ListN.{length}
 use borrow.Author.Needs.{needs}
@@ -48,10 +48,10 @@ callees t = (
   flat.Learnt,
   head-is.Asked,
   head-is.Learnt,
-  chain-below t,
-  chain.Post,
   rest-is.Asked,
   rest-is.Learnt,
+  chain-below t,
+  chain.Post,
   run-is.Asked,
   run-is.Learnt,
   last-is.Asked,
@@ -70,6 +70,11 @@ pub +compare-chain-spec : {M : Type 1} → statement M
     (λ c. flat-full (c .before .before .before .before .before .if1 .left) (c .before .before .flat .ensures (c .before .if2 .taken)) (c .before .before .before .before .before .before .before .before .before .before .pre .1 .0) (c .before .before .before .before .before .before .before .before .before .before .pre .1 .3) (c .if3 .taken))  -- returns-2
     (λ c κs. search needs)  -- head-is-requires
     (λ c. flat-no (c .before .before .before .before .before .before .before .if1 .left) (c .before .before .before .before .flat .ensures (c .before .before .before .if2 .taken)) (c .before .before .before .before .before .before .before .before .before .before .before .before .pre .1 .0) (c .before .before .before .before .before .before .before .before .before .before .before .before .pre .1 .3) (c .before .head-is .ensures) (c .if4 .taken))  -- returns-3
+    (λ c κs. search needs)  -- first-place-requires-3
+    (λ c κs. search needs)  -- rest-is-requires
+    (λ c. flat-no-rest (c .before .before .before .before .before .before .before .before .before .before .before .if1 .left) (c .before .before .before .before .before .before .before .before .flat .ensures (c .before .before .before .before .before .before .before .if2 .taken)) (c .before .before .before .before .before .before .before .before .before .before .before .before .before .before .before .before .pre .1 .0) (c .before .before .before .before .before .before .before .before .before .before .before .before .before .before .before .before .pre .1 .3) (c .before .before .before .before .before .head-is .ensures) (c .before .before .before .before .before .before .if3 .left) (c .before .before .before .before .if4 .left) (compared-none _ _ _ _ _ _ _ _ (omega (arith, c .before .before .before .if5 .taken)) (c .before .before .first-place3 .ensures)) refl (c .before .rest-is .ensures) (c .if6 .taken))  -- returns-4
+    (λ c. search needs)  -- add-t28
+    (λ c. flat-same (c .before .before .before .before .before .before .before .before .before .before .before .if1 .left) (c .before .before .before .before .before .before .before .before .flat .ensures (c .before .before .before .before .before .before .before .if2 .taken)) (c .before .before .before .before .before .before .before .before .before .before .before .before .before .before .before .before .pre .1 .0) (c .before .before .before .before .before .before .before .before .before .before .before .before .before .before .before .before .pre .1 .3) (c .before .before .before .before .before .head-is .ensures) (c .before .before .before .before .before .before .if3 .left) (c .before .before .before .before .if4 .left) (compared-none _ _ _ _ _ _ _ _ (omega (arith, c .before .before .before .if5 .taken)) (c .before .before .first-place3 .ensures)) refl (c .before .rest-is .ensures) (c .if6 .left))  -- returns-5
     (λ c. search needs)  -- add-compare-chain
     (λ c. search needs)  -- sub-compare-chain
     (λ c. search needs)  -- add-compare-chain-2
@@ -77,20 +82,20 @@ pub +compare-chain-spec : {M : Type 1} → statement M
     (λ c. search needs)  -- enum-known-past
     (λ c. search needs)  -- enum-told
     (λ c. c .before .before .before .before .compare-chain .kept .1 .1 .1 .1 .1 .1 .1 .0)  -- same-length
-    (λ c. flat-not (c .before .before .before .before .before .before .before .before .before .before .before .before .before .if1 .left) (c .before .before .before .before .before .before .before .before .before .before .flat .ensures (c .before .before .before .before .before .before .before .before .before .if2 .taken)) (c .before .before .before .before .before .before .before .before .before .before .before .before .before .before .before .before .before .before .pre .1 .0) (c .before .before .before .before .before .before .before .before .before .before .before .before .before .before .before .before .before .before .pre .1 .3) (c .before .before .before .before .before .before .before .head-is .ensures) (c .before .before .before .before .before .before .before .before .if3 .left) (c .before .before .before .before .before .before .if4 .left) (c .before .before .before .before .compare-chain .ensures) (c .enum-told .given .1))  -- returns-4
-    (λ c κs. search needs)  -- rest-is-requires
+    (λ c. flat-not (c .before .before .before .before .before .before .before .before .before .before .before .before .before .before .if1 .left) (c .before .before .before .before .before .before .before .before .before .before .before .flat .ensures (c .before .before .before .before .before .before .before .before .before .before .if2 .taken)) (c .before .before .before .before .before .before .before .before .before .before .before .before .before .before .before .before .before .before .before .pre .1 .0) (c .before .before .before .before .before .before .before .before .before .before .before .before .before .before .before .before .before .before .before .pre .1 .3) (c .before .before .before .before .before .before .before .before .head-is .ensures) (c .before .before .before .before .before .before .before .before .before .if3 .left) (c .before .before .before .before .before .before .before .if4 .left) (c .before .before .before .before .compare-chain .ensures) (c .enum-told .given .1))  -- returns-6
+    (λ c κs. search needs)  -- rest-is-requires-2
     (λ c. c .before .before .before .before .before .before .before .compare-chain .kept .1 .1 .1 .1 .1 .1 .1 .0)  -- same-length-2
-    (λ c. flat-no-rest (c .before .before .before .before .before .before .before .before .before .before .before .before .before .before .before .before .if1 .left) (c .before .before .before .before .before .before .before .before .before .before .before .before .before .flat .ensures (c .before .before .before .before .before .before .before .before .before .before .before .before .if2 .taken)) (c .before .before .before .before .before .before .before .before .before .before .before .before .before .before .before .before .before .before .before .before .before .pre .1 .0) (c .before .before .before .before .before .before .before .before .before .before .before .before .before .before .before .before .before .before .before .before .before .pre .1 .3) (c .before .before .before .before .before .before .before .before .before .before .head-is .ensures) (c .before .before .before .before .before .before .before .before .before .before .before .if3 .left) (c .before .before .before .before .before .before .before .before .before .if4 .left) (c .before .before .before .before .before .before .before .compare-chain .ensures) (c .before .before .before .past .given .1) (c .before .rest-is .ensures) (c .if5 .taken))  -- returns-5
+    (λ c. flat-no-rest (c .before .before .before .before .before .before .before .before .before .before .before .before .before .before .before .before .before .if1 .left) (c .before .before .before .before .before .before .before .before .before .before .before .before .before .before .flat .ensures (c .before .before .before .before .before .before .before .before .before .before .before .before .before .if2 .taken)) (c .before .before .before .before .before .before .before .before .before .before .before .before .before .before .before .before .before .before .before .before .before .before .pre .1 .0) (c .before .before .before .before .before .before .before .before .before .before .before .before .before .before .before .before .before .before .before .before .before .before .pre .1 .3) (c .before .before .before .before .before .before .before .before .before .before .before .head-is .ensures) (c .before .before .before .before .before .before .before .before .before .before .before .before .if3 .left) (c .before .before .before .before .before .before .before .before .before .before .if4 .left) (c .before .before .before .before .before .before .before .compare-chain .ensures) (c .before .before .before .past .given .1) (c .before .rest-is2 .ensures) (c .if7 .taken))  -- returns-7
     (λ c. c .before .before .before .before .before .before .before .compare-chain .kept .1 .1 .1 .1 .1 .1 .1 .0)  -- same-length-3
-    (λ c. flat-same (c .before .before .before .before .before .before .before .before .before .before .before .before .before .before .before .before .if1 .left) (c .before .before .before .before .before .before .before .before .before .before .before .before .before .flat .ensures (c .before .before .before .before .before .before .before .before .before .before .before .before .if2 .taken)) (c .before .before .before .before .before .before .before .before .before .before .before .before .before .before .before .before .before .before .before .before .before .pre .1 .0) (c .before .before .before .before .before .before .before .before .before .before .before .before .before .before .before .before .before .before .before .before .before .pre .1 .3) (c .before .before .before .before .before .before .before .before .before .before .head-is .ensures) (c .before .before .before .before .before .before .before .before .before .before .before .if3 .left) (c .before .before .before .before .before .before .before .before .before .if4 .left) (c .before .before .before .before .before .before .before .compare-chain .ensures) (c .before .before .before .past .given .1) (c .before .rest-is .ensures) (c .if5 .left))  -- returns-6
+    (λ c. flat-same (c .before .before .before .before .before .before .before .before .before .before .before .before .before .before .before .before .before .if1 .left) (c .before .before .before .before .before .before .before .before .before .before .before .before .before .before .flat .ensures (c .before .before .before .before .before .before .before .before .before .before .before .before .before .if2 .taken)) (c .before .before .before .before .before .before .before .before .before .before .before .before .before .before .before .before .before .before .before .before .before .before .pre .1 .0) (c .before .before .before .before .before .before .before .before .before .before .before .before .before .before .before .before .before .before .before .before .before .before .pre .1 .3) (c .before .before .before .before .before .before .before .before .before .before .before .head-is .ensures) (c .before .before .before .before .before .before .before .before .before .before .before .before .if3 .left) (c .before .before .before .before .before .before .before .before .before .before .if4 .left) (c .before .before .before .before .before .before .before .compare-chain .ensures) (c .before .before .before .past .given .1) (c .before .rest-is2 .ensures) (c .if7 .left))  -- returns-8
     (λ c κs. search needs)  -- run-is-requires
     (λ c. search needs)  -- enum-known-end
     (λ c. search needs)  -- enum-told-2
     (λ c. c .before .before .before .before .run-is .kept .1 .1 .1 .1 .1 .1 .0)  -- same-length-4
-    (λ c. compared-run _ _ _ _ _ _ _ (c .before .before .before .before .before .before .before .before .before .before .if1 .left) (c .before .before .before .before .before .before .before .before .before .before .before .before .before .before .before .pre .1 .0) (c .before .before .before .before .run-is .ensures) (c .enum-told2 .given .1))  -- returns-7
+    (λ c. compared-run _ _ _ _ _ _ _ (c .before .before .before .before .before .before .before .before .before .before .if1 .left) (c .before .before .before .before .before .before .before .before .before .before .before .before .before .before .before .pre .1 .0) (c .before .before .before .before .run-is .ensures) (c .enum-told2 .given .1))  -- returns-9
     (λ c κs. (c .before .before .before .before .before .before .before .before .before .before .before .before .before .before .before .before .before .pre .1 .0, c .before .before .before .before .before .before .before .before .before .before .before .before .before .before .before .before .before .pre .1 .3, sym (c .before .before .before .before .before .before .run-is .ensures) ∙ c .before .before .end .given .1))  -- last-is-requires
     (λ c. c .before .before .before .before .before .before .before .run-is .kept .1 .1 .1 .1 .1 .1 .0)  -- same-length-5
-    (λ c. rw (c .before .if6 .taken) (c .last-is .ensures))  -- returns-8
+    (λ c. rw (c .before .if8 .taken) (c .last-is .ensures))  -- returns-10
     (λ c. (compared-start _ _ _ _ _ _ _ (c .before .before .before .before .before .before .before .before .before .before .before .before .if1 .left) (c .before .before .before .before .before .before .before .before .before .before .before .before .before .before .before .before .before .pre .1 .3) (c .before .before .before .before .before .before .run-is .ensures) (c .before .before .end .given .1), search needs, c .before .before .before .before .before .before .run-is .kept .1 .1 .1 .1 .1 .1 .0 ∙ c .before .before .before .before .before .before .before .before .before .before .before .before .before .before .before .before .before .pre .1 .4))  -- loop-holds
     (λ c. search needs)  -- cast-e
     (λ c. search needs)  -- mul-e
@@ -107,12 +112,12 @@ pub +compare-chain-spec : {M : Type 1} → statement M
     (λ c. search needs)  -- enum-known-past-2
     (λ c. search needs)  -- enum-told-3
     (λ c. c .before .before .before .before .compare-chain2 .kept .1 .1 .1 .1 .1 .1 .1 .0 ∙ c .before .before .before .before .before .before .before .before .before .before .before .before .loop .inv .2 ∙ sym (c .before .before .before .before .before .before .before .before .before .before .before .before .before .before .before .before .before .before .before .before .before .before .before .before .before .before .before .before .before .before .pre .1 .4))  -- same-length-6
-    (λ c. compared-not (c .before .before .before .before .before .before .before .before .before .before .before .before .before .before .before .before .before .before .before .before .before .before .before .before .before .if1 .left) (c .before .before .before .before .before .before .before .before .before .before .before .before .loop .inv .0) (c .before .before .before .before .before .before .before .before .before .before .before .before .before .before .before .before .before .before .before .before .before .before .before .before .before .before .before .before .before .before .pre .1 .0) (c .before .before .before .before .before .before .before .before .before .before .before .loop-test .taken) (c .before .before .before .before .before .before .before .before .narrow .ensures .1) (c .before .before .before .before .compare-chain2 .ensures) (c .enum-told3 .given .1))  -- returns-9
-    (λ c κs. (c .before .before .before .before .before .before .before .before .before .before .before .before .before .before .before .before .before .before .before .before .before .before .before .before .before .before .before .before .before .before .before .pre .1 .0, omega (arith, c .before .before .before .before .before .before .before .before .before .before .before .before .before .loop .inv .0 .below .end-in, c .before .before .before .before .before .before .before .before .before .before .before .before .loop-test .taken)))  -- rest-is-requires-2
+    (λ c. compared-not (c .before .before .before .before .before .before .before .before .before .before .before .before .before .before .before .before .before .before .before .before .before .before .before .before .before .if1 .left) (c .before .before .before .before .before .before .before .before .before .before .before .before .loop .inv .0) (c .before .before .before .before .before .before .before .before .before .before .before .before .before .before .before .before .before .before .before .before .before .before .before .before .before .before .before .before .before .before .pre .1 .0) (c .before .before .before .before .before .before .before .before .before .before .before .loop-test .taken) (c .before .before .before .before .before .before .before .before .narrow .ensures .1) (c .before .before .before .before .compare-chain2 .ensures) (c .enum-told3 .given .1))  -- returns-11
+    (λ c κs. (c .before .before .before .before .before .before .before .before .before .before .before .before .before .before .before .before .before .before .before .before .before .before .before .before .before .before .before .before .before .before .before .pre .1 .0, omega (arith, c .before .before .before .before .before .before .before .before .before .before .before .before .before .loop .inv .0 .below .end-in, c .before .before .before .before .before .before .before .before .before .before .before .before .loop-test .taken)))  -- rest-is-requires-3
     (λ c. c .before .before .before .before .before .before .before .compare-chain2 .kept .1 .1 .1 .1 .1 .1 .1 .0 ∙ c .before .before .before .before .before .before .before .before .before .before .before .before .before .before .before .loop .inv .2 ∙ sym (c .before .before .before .before .before .before .before .before .before .before .before .before .before .before .before .before .before .before .before .before .before .before .before .before .before .before .before .before .before .before .before .before .before .pre .1 .4))  -- same-length-7
-    (λ c. compared-no (c .before .before .before .before .before .before .before .before .before .before .before .before .before .before .before .before .before .before .before .before .before .before .before .before .before .before .before .before .if1 .left) (c .before .before .before .before .before .before .before .before .before .before .before .before .before .before .before .loop .inv .0) (c .before .before .before .before .before .before .before .before .before .before .before .before .before .before .before .before .before .before .before .before .before .before .before .before .before .before .before .before .before .before .before .before .before .pre .1 .0) (c .before .before .before .before .before .before .before .before .before .before .before .before .before .before .loop-test .taken) (c .before .before .before .before .before .before .before .before .before .before .before .narrow .ensures .1) (c .before .before .before .before .before .before .before .compare-chain2 .ensures) (c .before .before .before .past2 .given .1) (c .before .rest-is2 .ensures) (c .if7 .taken))  -- returns-10
+    (λ c. compared-no (c .before .before .before .before .before .before .before .before .before .before .before .before .before .before .before .before .before .before .before .before .before .before .before .before .before .before .before .before .if1 .left) (c .before .before .before .before .before .before .before .before .before .before .before .before .before .before .before .loop .inv .0) (c .before .before .before .before .before .before .before .before .before .before .before .before .before .before .before .before .before .before .before .before .before .before .before .before .before .before .before .before .before .before .before .before .before .pre .1 .0) (c .before .before .before .before .before .before .before .before .before .before .before .before .before .before .loop-test .taken) (c .before .before .before .before .before .before .before .before .before .before .before .narrow .ensures .1) (c .before .before .before .before .before .before .before .compare-chain2 .ensures) (c .before .before .before .past2 .given .1) (c .before .rest-is3 .ensures) (c .if9 .taken))  -- returns-12
     (λ c. search needs)  -- add-i
     (λ c. search needs)  -- loop-less
-    (λ c. (compared-on (c .before .before .before .before .before .before .before .before .before .before .before .before .before .before .before .before .before .before .before .before .before .before .before .before .before .before .before .before .if1 .left) (c .before .before .before .before .before .before .before .before .before .before .before .before .before .before .before .loop .inv .0) (c .before .before .before .before .before .before .before .before .before .before .before .before .before .before .before .before .before .before .before .before .before .before .before .before .before .before .before .before .before .before .before .before .before .pre .1 .0) (c .before .before .before .before .before .before .before .before .before .before .before .before .before .before .loop-test .taken) (c .before .before .before .before .before .before .before .before .before .before .before .narrow .ensures .1) (c .before .before .before .before .before .before .before .compare-chain2 .ensures) (c .before .before .before .past2 .given .1) (c .before .rest-is2 .ensures) (c .if7 .left), c .before .before .before .before .before .before .before .before .before .before .before .narrow .kept .1 .1 .1 .1 .0 ∙ c .before .before .before .before .before .before .before .before .before .before .before .before .before .before .before .loop .inv .1, c .before .before .before .before .before .before .before .compare-chain2 .kept .1 .1 .1 .1 .1 .1 .1 .0 ∙ c .before .before .before .before .before .before .before .before .before .before .before .before .before .before .before .loop .inv .2))  -- loop-again
+    (λ c. (compared-on (c .before .before .before .before .before .before .before .before .before .before .before .before .before .before .before .before .before .before .before .before .before .before .before .before .before .before .before .before .if1 .left) (c .before .before .before .before .before .before .before .before .before .before .before .before .before .before .before .loop .inv .0) (c .before .before .before .before .before .before .before .before .before .before .before .before .before .before .before .before .before .before .before .before .before .before .before .before .before .before .before .before .before .before .before .before .before .pre .1 .0) (c .before .before .before .before .before .before .before .before .before .before .before .before .before .before .loop-test .taken) (c .before .before .before .before .before .before .before .before .before .before .before .narrow .ensures .1) (c .before .before .before .before .before .before .before .compare-chain2 .ensures) (c .before .before .before .past2 .given .1) (c .before .rest-is3 .ensures) (c .if9 .left), c .before .before .before .before .before .before .before .before .before .before .before .narrow .kept .1 .1 .1 .1 .0 ∙ c .before .before .before .before .before .before .before .before .before .before .before .before .before .before .before .loop .inv .1, c .before .before .before .before .before .before .before .compare-chain2 .kept .1 .1 .1 .1 .1 .1 .1 .0 ∙ c .before .before .before .before .before .before .before .before .before .before .before .before .before .before .before .loop .inv .2))  -- loop-again
     (λ c. c .before .loop .inv .2 ∙ sym (c .before .before .before .before .before .before .before .before .before .before .before .before .before .before .before .before .before .before .before .pre .1 .4))  -- same-length-8
-    (λ c. compared-end (c .before .before .before .before .before .before .before .before .before .before .before .before .before .before .if1 .left) (c .before .loop .inv .0) (c .loop-test .left))  -- returns-11
+    (λ c. compared-end (c .before .before .before .before .before .before .before .before .before .before .before .before .before .before .if1 .left) (c .before .loop .inv .0) (c .loop-test .left))  -- returns-13

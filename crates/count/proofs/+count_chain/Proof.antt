@@ -61,22 +61,20 @@ pub +count-chain-spec : {M : Type 1} → statement M
     (λ c κs. search needs)  -- high-requires
     (λ c κs. search needs)  -- flat-requires
     (λ c. flat-full _ _ _ _ _ (c .before .before .before .before .before .if1 .left) (c .before .before .flat .ensures (c .before .if2 .taken)) (c .if3 .taken))  -- returns-2
+    (λ c. flat-on _ _ _ _ _ (c .before .before .before .before .before .before .if1 .left) (c .before .before .before .flat .ensures (c .before .before .if2 .taken)) (c .before .if3 .left) 0 (counted-none _ _ _ _ _ (omega (arith, c .if4 .taken))))  -- returns-3
     (λ c. search needs)  -- add-count-chain
     (λ c. search needs)  -- sub-count-chain
     (λ c. search needs)  -- sub-count-chain-2
     (λ c κs. search needs)  -- count-chain-requires
     (λ c. search needs)  -- add-result
-    (λ c. flat-on _ _ _ _ _ (c .before .before .before .before .before .before .if1 .left) (c .before .before .before .flat .ensures (c .before .before .if2 .taken)) (c .before .if3 .left) _ (c .count-chain .ensures))  -- returns-3
+    (λ c. flat-on _ _ _ _ _ (c .before .before .before .before .before .before .before .if1 .left) (c .before .before .before .before .flat .ensures (c .before .before .before .if2 .taken)) (c .before .before .if3 .left) _ (c .count-chain .ensures))  -- returns-4
     (λ c κs. search needs)  -- count-ends-requires
-    (λ c. rw (c .before .if4 .taken) (c .count-ends .ensures))  -- returns-4
+    (λ c. rw (c .before .if5 .taken) (c .count-ends .ensures))  -- returns-5
     (λ c. search needs)  -- slice-aggregate-ends-of
     (λ c κs. search needs)  -- ends-of-requires
     (λ c. (counted-start _ _ _ _ _ _ (c .before .ends-of .ensures .1), search needs))  -- loop-holds
     (λ c. search needs)  -- add-result-2
-    -- returns-5
-    (λ c.
-    let l = c .before .before in
-    counted-full (l .loop .inv .0) (l .before .before .before .before .before .before .before .before .before .if1 .left) (c .before .loop-test .taken) (c .if5 .taken))
+    (λ c. counted-full (c .before .before .loop .inv .0) (c .before .before .before .before .before .before .before .before .before .before .before .if1 .left) (c .before .loop-test .taken) (c .if6 .taken))  -- returns-6
     (λ c. search needs)  -- sub-i
     (λ c. search needs)  -- sub-spare
     (λ c. search needs)  -- sub-spare-2
@@ -94,13 +92,10 @@ pub +count-chain-spec : {M : Type 1} → statement M
     (λ c. search needs)  -- loop-less
     -- loop-again
     (λ c.
-    let l = c .before .before .before .before .before .before .before in
+    let l = c .before .before .before .before .before .before .before .loop in
     let p = c .before .before .before .before .before .before .loop-test .taken in
-    let o = l .before .before .ends-of in
+    let o = c .before .before .before .before .before .before .before .before .before .ends-of in
     let m = c .before .before .before .narrow in
-    let k : l .loop .i - 1 < o .result = omega (arith, l .loop .inv .0 .most, o .ensures .1) in
-    (counted-on (l .loop .inv .0) (l .before .before .before .before .before .before .before .before .before .if1 .left) p (end-at _ (o .result) (l .loop .i - 1) (o .ensures .2) k) (c .before .before .before .before .before .if5 .left) _ (m .ensures .1) _ (c .count-chain2 .ensures), m .kept .1 .1 .1 .1 .0 ∙ l .loop .inv .1))
-    -- returns-6
-    (λ c.
-    let l = c .before in
-    counted-end (l .loop .inv .0) (l .before .before .before .before .before .before .before .before .before .if1 .left) (c .loop-test .left))
+    let k : l .i - 1 < o .result = omega (arith, l .inv .0 .most, o .ensures .1) in
+    (counted-on (l .inv .0) (c .before .before .before .before .before .before .before .before .before .before .before .before .before .before .before .before .if1 .left) p (end-at _ (o .result) (l .i - 1) (o .ensures .2) k) (c .before .before .before .before .before .if6 .left) _ (m .ensures .1) _ (c .count-chain2 .ensures), m .kept .1 .1 .1 .1 .0 ∙ l .inv .1))
+    (λ c. counted-end (c .before .loop .inv .0) (c .before .before .before .before .before .before .before .before .before .before .if1 .left) (c .loop-test .left))  -- returns-7
