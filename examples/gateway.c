@@ -80,7 +80,7 @@ int main(void)
 		if (f.answer == REAMSTORK_UNREADABLE)
 			unreadable++;
 		else if (f.answer != REAMSTORK_DONE || f.action >= ACTIONS)
-			return 1;	/* the words were damaged: load them again */
+			return 1;	/* the words were damaged, load them again; 13 cannot come, the record began clear and no rule was deleted */
 		else
 			counts[f.action]++;
 		if (f.reads > worst)

@@ -40,17 +40,19 @@
  *
  *  - `words` points to at least `len` words of 32 bits, aligned as
  *    uint32_t is; `packet` points to at least `packet_len` bytes; `low`
- *    and `high` point to five words each; `tallies` points to a record;
- *    `records` points to at least `count` records.  No pointer is null, not
- *    even with a length of 0.
+ *    and `high` point to five words each; `tallies` points to a
+ *    reamstork_tallies; `records` points to at least `count` of
+ *    reamstork_record.  No pointer is null, not even with a length or
+ *    count of 0.
  *  - A call that writes its words (start, start_with, insert, delete) has
  *    them to itself while it runs: no other thread, interrupt or device
  *    reads or writes them, and `low` and `high` do not lie within them.
  *    A call that is lent tallies has these to itself in the same way, and
  *    they lie neither within its words nor within its packet.
- *  - While any other call runs nobody writes its words, its packet or its
- *    records, and the words and the packet do not overlap.  Any number of
- *    such calls may run at once over the same words.
+ *  - While a call that only reads its words runs, nobody writes them, its
+ *    packet or its records, and the words and the packet do not overlap.
+ *    Any number of such calls may run at once over the same words; those
+ *    that count have a tally record each.
  *
  *
  * RULES
@@ -320,11 +322,15 @@ reamstork_found reamstork_lookup_packet(const uint32_t *words, size_t len, const
  * and their total lengths.  Both are Counter32 (RFC 2578): after
  * 4,294,967,295 they start again at 0.
  *
- * The words of a record may be any numbers.  Who deletes a rule drops its
- * tally, by setting key[i] to REAMSTORK_UNUSED where key[i] is its number.
+ * The words of a record may be any numbers.  Whoever deletes a rule drops
+ * its tally, by setting key[i] to REAMSTORK_UNUSED where key[i] is its
+ * number: a later rule with that number would go on counting there.  Read
+ * and drop tallies between calls, not while one runs.
  *
  * reamstork_tallies_clear makes every place unused, with REAMSTORK_UNUSED
- * for its key and 0 for both counts.  It never refuses.
+ * for its key and 0 for both counts.  It never refuses.  Clear a record
+ * before its first use: a record of zeros is not clear, each of its places
+ * is the tally of rule 0.
  */
 void reamstork_tallies_clear(reamstork_tallies *tallies);
 
@@ -344,7 +350,12 @@ void reamstork_tallies_clear(reamstork_tallies *tallies);
  * record is as before.  Refused: all of them are.  Changes neither words
  * nor packet.
  *
- * Besides the lookup this goes over the 65 keys at most once.
+ * After 13 reamstork_lookup_packet still gives the decision.  A record that
+ * began clear, and from which the tally of each deleted rule is dropped, has
+ * room for a full table and its default.
+ *
+ * Besides the lookup this goes over the 65 keys at most once.  The other
+ * lookups count nothing.
  */
 reamstork_found reamstork_lookup_packet_tally(const uint32_t *words, size_t len, const uint8_t *packet, size_t packet_len, reamstork_tallies *tallies);
 
@@ -367,7 +378,8 @@ uint32_t reamstork_tally_difference(uint32_t earlier, uint32_t later);
  *      those whose five ranges all hold the values; of several with that
  *      number the first.  Where none holds them, 65,535 and default_action
  *
- * in this order.  Changes no record, and reports no reads.
+ * in this order.  Changes no record, and reports no reads.  65,535 in the
+ * answer may also be a record's own number.
  *
  * A record may hold any numbers: its own may be above 65,534, or stand in
  * the list more than once, a high end may be above its top, and a range

@@ -3,6 +3,7 @@
  *
  *     speed                          times, as a table
  *     speed count NAME CALL WHICH    lookups for callgrind, see speed.sh
+ *     speed edit NAME CALL RULES CELLS BUDGET OVERLAP    one check or edit
  *
  * Both run in turns over the same words, with the same rules and packets,
  * so that neither has better memory or a quieter moment.  A figure is the
@@ -332,8 +333,31 @@ static int lookups(const char *name, const char *call, const char *which)
 	return 0;
 }
 
+/* For callgrind too: one check, insert or delete, of the rule in the middle. */
+static int one_edit(const char *name, const char *call, char **sample)
+{
+	int plain = strcmp(name, "plain") == 0;
+	const struct library *l = &both[plain], *other = &both[!plain];
+	const struct rule *r;
+	uint32_t wrong;
+
+	draw_sample((uint32_t)atol(sample[0]), (uint32_t)atol(sample[1]), (uint32_t)atol(sample[2]), atoi(sample[3]));
+	r = &rules[rule_count / 2];
+	if (strcmp(call, "check") == 0)
+		wrong = l->check(words, len);
+	else if (strcmp(call, "delete") == 0)
+		wrong = l->delete(words, len, r->number);
+	else
+		wrong = other->delete(words, len, r->number) | l->insert(words, len, r->number, r->action, r->low, r->high);
+	if (wrong)
+		fail("a call is refused");
+	return 0;
+}
+
 int main(int argc, char **argv)
 {
+	if (argc == 8 && strcmp(argv[1], "edit") == 0)
+		return one_edit(argv[2], argv[3], argv + 4);
 	if (argc == 5 && strcmp(argv[1], "count") == 0)
 		return lookups(argv[2], argv[3], argv[4]);
 	memset(other, 1, sizeof other);

@@ -85,3 +85,18 @@ done | awk '
 	function row(name, x) {
 		printf "  %-24s %12.1f    %12.1f    %8.2f\n", name, x[0], x[1], x[0] / x[1]
 	}'
+
+# one LIBRARY CALL RULES CELLS BUDGET OVERLAP: instructions of one call
+one() {
+	valgrind --tool=callgrind --callgrind-out-file=/dev/null \
+		--toggle-collect="${1}_$2" "$dir/speed" edit "$@" 2>&1 |
+		sed -n 's/.*Collected : *//p'
+}
+
+for sample in '10 1920 400 0' '60 1920 1900 0' '60 65536 60000 1'; do
+	echo
+	echo "Instructions of one call, $sample (rules, c, cells at most, overlapping)"
+	for call in check insert delete; do
+		echo "$call $(one reamstork $call $sample) $(one plain $call $sample)"
+	done | awk '{ printf "  %-24s %12d    %12d    %8.2f\n", $1, $2, $3, $2 / $3 }'
+done

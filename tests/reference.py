@@ -1,4 +1,4 @@
-"""The reference account of Reamstork, written from document 01 alone.
+"""The reference account of Reamstork, written from documents 01 and 02 alone.
 
 There is no tree and there are no cells in its answers: the winner and the
 count of reads come straight from the rules, in the words of demands 2 and 3.

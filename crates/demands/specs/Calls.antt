@@ -1,4 +1,4 @@
--- What the three demands speak of. A store's words are any list of numbers, and so are a packet's bytes. What start, insert, delete, check, read and cells answer and leave is defined in stored/specs/Store.antt, and what a lookup answers in lookup/specs/Walk.antt: the proof of each of these functions shows that its answer, and every word that it was lent, are what is said there.
+-- What the three demands speak of. A store's words are any list of numbers, and so are a packet's bytes. What start, insert, delete, check, read and cells answer and leave is defined in stored/specs/Store.antt, what a lookup answers in lookup/specs/Walk.antt, and what the lookup that counts answers and leaves in tally/specs/Tally.antt: the proof of each of these functions shows that its answer, and every word that it was lent, are what is said there.
 -- Assumes nothing: these are definitions.
 use mathlib.Core.Path.{_≡_}
 use mathlib.Core.Bool.{true}

@@ -60,7 +60,7 @@ pub record Scan : Type 0 where
   pub own : (ws : List ℕ) → Same (rulesOf (recordsIn ws)) (rulesIn ws)
   -- and for any list: what is named
   pub names : (records : List Given) (a : ℕ) (p : Packet) → WithinTops p → (scan records a p .answer ≡ 0) × Named (rulesOf records) a p (scan records a p)
-  -- "11 as before, then nothing else refuses"
+  -- "Refusals: 11 as before", and nothing else refuses
   pub above : (records : List Given) (a : ℕ) (p : Packet) → AboveTop p → scan records a p ≡ refused 11
   -- "A rule whose low end is above its high end holds nothing"
   pub crossed : (r : Rule) (i : ℕ) → i < 5 → high r i < low r i → (p : Packet) → Holds 5 p r → ⊥

@@ -4,7 +4,6 @@ ghost use mathlib.Core.Path.{_≡_};
 ghost use Prim.Native.Nat.{_+_, _<_, _≤_};
 ghost use lib.ListN.{length};
 ghost use Rattle.header.specs.Header.{
-  byte,
   half,
   word,
   headerLength,
@@ -101,7 +100,7 @@ fn total_length(s: &[u8]) -> usize
     packet_length(s) as usize
 }
 
-// The same as the number of 32 bits that a tally adds.
+// The same as a number of 32 bits, which is what a tally adds.
 pub fn packet_length(s: &[u8]) -> u32
     requires { ⌜ 20 ≤ length (now s) ⌝ }
     ensures { λ r. ⌜ (r ≡ totalLength (now (s .entry))) × (r < 65536) ⌝ }

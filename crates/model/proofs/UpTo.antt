@@ -32,11 +32,6 @@ true-same xs ys h = rw h (same-refl ys)
 pub same-false : (xs ys : List ℕ) → (xs ≡ ys → ⊥) → same xs ys ≡ false
 same-false xs ys h = by-test (same xs ys) (λ q. absurd (h (same-true xs ys q))) (λ q. q)
 
-pub same-append : (p xs ys : List ℕ) → same (p ++ xs) (p ++ ys) ≡ same xs ys
-unfolding same
-same-append [] xs ys = refl
-same-append (x ∷ p) xs ys = rw (eq-eqb x x refl) (same-append p xs ys)
-
 module _ {A : Type 0} where
   pub length-upTo : (n : ℕ) (f : ℕ → A) → length (upTo n f) ≡ n
   unfolding upTo

@@ -3,7 +3,7 @@
 use mathlib.Core.Path.{_≡_, refl}
 use mathlib.Core.Bool.{true}
 use mathlib.Core.List.{List, [], _∷_, map}
-use mathlib.Core.Option.{Option, some}
+use mathlib.Core.Option.{some}
 use Prim.Native.Nat.{ℕ}
 use Rattle.model.specs.Rules.{found, reads, values}
 use Rattle.model.specs.Table.{Rule, Table, fields, treeOf, winnerOf, readsOf, cellsOf, within, withRule, without, insertAnswer}

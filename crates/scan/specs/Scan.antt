@@ -1,4 +1,4 @@
--- "A lookup that runs through a lent list of rule records": what it answers, and the steps by which it goes. A record is any rule: "Rule records may hold any numbers".
+-- "A lookup that runs through a lent list of rule records": what it answers, and the steps by which it goes. A record may hold any numbers.
 -- Assumes nothing: these are definitions.
 use mathlib.Core.Bool.{Bool, true, false, cond, not, _&&_, _||_}
 use mathlib.Core.List.{List, [], _∷_, map}
@@ -40,7 +40,7 @@ refused a = record { answer = a; rule = 0; action = 0 }
 abbrev pub rulesOf : List Given → List Rule
 rulesOf records = map given records
 
--- THE SCAN: "11 as before, then nothing else refuses"
+-- THE SCAN: "Refusals: 11 as before", and nothing else refuses
 unfoldable pub scanValues : List Given → ℕ → ℕ → ℕ → ℕ → ℕ → ℕ → Winner
 scanValues records action destination source protocol destinationPort sourcePort =
     cond (packetRight ipv4 (destination ∷ source ∷ protocol ∷ destinationPort ∷ sourcePort ∷ []))

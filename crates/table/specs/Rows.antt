@@ -83,7 +83,7 @@ Right rows tops n a b = (i : ℕ) → a ≤ i → i < b → getD rows i 0 ≡ ro
 abbrev pub Zeros : List ℕ → ℕ → Type 0
 Zeros rows a = (i : ℕ) → a ≤ i → i < 975 → getD rows i 0 ≡ 0
 
--- out with the words of a slice from a start on written from a place on to an end: what was made of before
+-- out is `before` with the words of a slice, from a start on, written over it from a place up to an end; of what is behind that nothing is said
 pub record Copied (from : List ℕ) (start : ℕ) (before out : List ℕ) (at end : ℕ) : Type 0 where
   pub new : (i : ℕ) → at ≤ i → i < end → getD out i 0 ≡ getD from (start + (i - at)) 0
   pub kept : (i : ℕ) → i < at → getD out i 0 ≡ getD before i 0
