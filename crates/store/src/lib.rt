@@ -1,8 +1,8 @@
 // A store: start, check, insert, delete, read, cells in use. Every promise is one equation for the answer and for every lent word, whatever the words hold.
 ghost use mathlib.Core.Path.{_≡_};
 ghost use mathlib.Core.Bool.{true};
-ghost use mathlib.Core.List.{_++_};
-ghost use Prim.Native.Nat.{_+_, _*_, _≤_};
+ghost use mathlib.Core.List.{List, _++_};
+ghost use Prim.Native.Nat.{ℕ, _+_, _*_, _≤_, _<_};
 ghost use lib.Dec.{leb};
 ghost use lib.ListN.{length, getD, replicate};
 ghost use Rattle.model.specs.Lists.{same};
@@ -96,9 +96,10 @@ pub fn check(words: &[u32]) -> bool
     tree_is(&words[1022..end], c, &words[47..1022], n)
 }
 
-// Word i of the front: the number of cells, the number of rules, zeros, and the rows.
-fn front_word(c: u32, n: u32, rows: &[u32], i: usize) -> u32
-    ensures { λ r. ⌜ r ≡ getD (headText c n ++ now (rows .entry)) i 0 ⌝ }
+// Word i of the head: c, the number of rules, zeros.
+fn head_word(c: u32, n: u32, i: usize) -> u32
+    requires { ⌜ i < 47 ⌝ }
+    ensures { λ r. ⌜ ((rows : List ℕ) → r ≡ getD (headText c n ++ rows) i 0) ⌝ }
 {
     if i == 0 {
         return c;
@@ -106,11 +107,7 @@ fn front_word(c: u32, n: u32, rows: &[u32], i: usize) -> u32
     if i == 1 {
         return n;
     }
-    if i < 47 {
-        return 0;
-    }
-    let j = i - 47;
-    if j < rows.len() { rows[j] } else { 0 }
+    0
 }
 
 // Writes the front of a store: its head and its rows.
@@ -120,7 +117,7 @@ fn write_front(words: &mut [u32], c: u32, n: u32, rows: &[u32])
 {
     let mut i: usize = 0;
     while i < 47 {
-        words[i] = front_word(c, n, rows, i);
+        words[i] = head_word(c, n, i);
         i += 1;
     }
     while i < 1022 {

@@ -44,7 +44,7 @@ write-front-spec =
     (λ c.
     let l = c .before .before .loop in
     let a = c .before .before .before .before .before .args in
-    (search needs, length-set (l .words) (l .i) _ ∙ l .inv .1, rw (c .front-word .ensures) (fill-step (λ j. getD (headText (a .c) (a .n) ++ a .rows .now) j 0) (l .words) (l .i) (l .inv .2) (omega (arith, l .inv .1)))))
+    (search needs, length-set (l .words) (l .i) _ ∙ l .inv .1, rw (c .head-word .ensures (a .rows .now)) (fill-step (λ j. getD (headText (a .c) (a .n) ++ a .rows .now) j 0) (l .words) (l .i) (l .inv .2) (omega (arith, l .inv .1)))))
     -- loop2-holds
     (λ c. (omega (arith, c .loop-test .left), omega (arith, c .before .loop .inv .0), c .before .loop .inv .1, c .before .loop .inv .2))
     (λ c. c .before .loop2 .inv .0)
