@@ -333,7 +333,7 @@ static int lookups(const char *name, const char *call, const char *which)
 	return 0;
 }
 
-/* For callgrind too: one check, insert or delete, of the rule in the middle. */
+/* For callgrind too: one check, insert or delete, of the rule in the middle; or none, for what drawing the sample takes. */
 static int one_edit(const char *name, const char *call, char **sample)
 {
 	int plain = strcmp(name, "plain") == 0;
@@ -343,7 +343,9 @@ static int one_edit(const char *name, const char *call, char **sample)
 
 	draw_sample((uint32_t)atol(sample[0]), (uint32_t)atol(sample[1]), (uint32_t)atol(sample[2]), atoi(sample[3]));
 	r = &rules[rule_count / 2];
-	if (strcmp(call, "check") == 0)
+	if (strcmp(call, "none") == 0)
+		wrong = 0;
+	else if (strcmp(call, "check") == 0)
 		wrong = l->check(words, len);
 	else if (strcmp(call, "delete") == 0)
 		wrong = l->delete(words, len, r->number);

@@ -86,17 +86,24 @@ done | awk '
 		printf "  %-24s %12.1f    %12.1f    %8.2f\n", name, x[0], x[1], x[0] / x[1]
 	}'
 
-# one LIBRARY CALL RULES CELLS BUDGET OVERLAP: instructions of one call
-one() {
+# inside FUNCTION LIBRARY CALL RULES CELLS BUDGET OVERLAP: instructions
+inside() {
+	function=$1
+	shift
 	valgrind --tool=callgrind --callgrind-out-file=/dev/null \
-		--toggle-collect="${1}_$2" "$dir/speed" edit "$@" 2>&1 |
+		--toggle-collect="$function" "$dir/speed" edit "$@" 2>&1 |
 		sed -n 's/.*Collected : *//p'
+}
+
+# one LIBRARY CALL SAMPLE: those of one call, less what drawing the sample takes
+one() {
+	echo $(($(inside "${1}_$2" "$1" "$2" $3) - $(inside "${1}_$2" "$1" none $3)))
 }
 
 for sample in '10 1920 400 0' '60 1920 1900 0' '60 65536 60000 1'; do
 	echo
 	echo "Instructions of one call, $sample (rules, c, cells at most, overlapping)"
 	for call in check insert delete; do
-		echo "$call $(one reamstork $call $sample) $(one plain $call $sample)"
+		echo "$call $(one reamstork $call "$sample") $(one plain $call "$sample")"
 	done | awk '{ printf "  %-24s %12d    %12d    %8.2f\n", $1, $2, $3, $2 / $3 }'
 done
