@@ -1,15 +1,15 @@
 -- The tree, so its cells and its walks, the count of reads and the winner depend on the set of rules alone: not on their order, and not on how often one stands in the list. The winner is what its name says; and records that the same ranges hold get the same winner.
 -- Assumes nothing.
-use mathlib.Core.Path.{_≡_, refl, sym, ap, ap₂, _∙_, fun-ext}
+use mathlib.Core.Path.{_≡_, refl, ap, ap₂, fun-ext}
 use mathlib.Core.Logic.{_⊎_, inl, inr, ⊎-elim}
 use mathlib.Core.Bool.{Bool, true, false, cond, _&&_}
 use mathlib.Core.List.{List, [], _∷_}
-use Prim.Native.Nat.{ℕ, zero, suc, _+_, _≤_}
+use Prim.Native.Nat.{ℕ, _≤_}
 use native.Mathlib.Omega.{arith}
 use lib.Dec.{leb}
 use borrow.Author.Tests.{leb-true, leb-false, le-leb}
-use Rattle.model.specs.Lists.{In, Sub, Same, keep, least}
-use Rattle.model.specs.Rules.{Field, covers, holds, winner, ends, readsSum, names, chain, tree}
+use Rattle.model.specs.Lists.{In, Same, keep, least}
+use Rattle.model.specs.Rules.{Field, covers, holds, winner, readsSum, names, chain, tree}
 use Rattle.model.proofs.Keep.{from-keep, in-keep, keep-same, keep-set}
 use Rattle.model.proofs.Ends.{ends-same}
 
