@@ -28,7 +28,7 @@ Outcomes, of which the first two have passed and all others failed:
   not compiled  the edit did not reach the prover
   no verdict    out of time, or the prover could not tell
   bad edit      it is not of the form above, or the crate itself is not proved
-The last line counts edits.
+Those that failed are named again at the end, and the last line counts edits.
 
 --list writes all edits as a page, docs/EDITS.md (`make edits-list`), and --listed
 sees that the page there is this one. --move moves the edits of crates from
@@ -145,15 +145,19 @@ def plan(options):
 
 
 def try_all(options):
-    chosen, counts, seconds = plan(options), Counter(), Counter()
+    chosen, counts, seconds, wrong = plan(options), Counter(), Counter(), []
     for crate, edit, found in over_baselines(Kit(), chosen, one, options.jobs):
         what, first, took = found
         counts[what] += 1
         seconds[crate] += took
         first = '' if what == 'refused' and not options.why else first[:options.cut]
         print('%-12s %s (%.1f s) %s' % (what, edit.name, took, first), flush=True)
+        if what not in PASSED:
+            wrong.append('FAILED %s: %s %s' % (edit.name, what, first))
     for crate, edits in chosen.items():
         print('%-12s %3d edits, %6.1f s' % (crate, len(edits), seconds[crate]))
+    for line in wrong:
+        print(line)
     passed = sum(counts[what] for what in PASSED)
     failed = sum(counts.values()) - passed
     print('%d passed, %d failed' % (passed, failed))
