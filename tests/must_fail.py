@@ -39,7 +39,6 @@ tests/must-fail/kept.txt names, a line CRATE/LABEL for each; it writes the page 
 import argparse
 import subprocess
 import sys
-import time
 from collections import Counter
 
 from prover import JOBS, ROOT, Kit, NotProved, crates, over_baselines
@@ -117,17 +116,15 @@ def kept():
 # ---- trying them
 
 def one(crate, baseline, edit):
-    """The outcome, the line that shows it, and the seconds."""
-    began = time.monotonic()
+    """The outcome, the line that shows it, and the prover's seconds."""
     try:
-        texts, base, began = edit.texts(), baseline(), time.monotonic()
-        what, first = base.judge(texts, LIMIT)
+        what, first, took = baseline().judge(edit.texts(), LIMIT)
     except (Bad, NotProved) as problem:
-        return 'bad edit', str(problem), time.monotonic() - began
+        return 'bad edit', str(problem), 0
     if what == 'shape' and edit.shape:
         what = 'shape, meant'
     what = {'fact': 'refused', 'survived': 'NOT REFUSED'}.get(what, what)
-    return what, first, time.monotonic() - began
+    return what, first, took
 
 
 def plan(options):

@@ -131,12 +131,12 @@ class Run:
         return plan
 
     def one(self, crate, baseline, m):
-        """The outcome, the line that shows it, and the seconds; nothing when it is late."""
-        base, began = baseline(), time.monotonic()
+        """The outcome, the line that shows it, and the prover's seconds; nothing when it is late."""
+        base = baseline()
         if self.late():
             return None
         new = {self.kit.files[crate]: apply(self.sources[crate].text, m.edits)}
-        return *base.judge(new, self.options.limit), time.monotonic() - began
+        return base.judge(new, self.options.limit)
 
     def count(self, m, what, first, took):
         old = self.sources[m.crate].text

@@ -4,6 +4,9 @@ A change is checked in a copy of its crate, over a copy of the crate's baseline:
 folder of modules as the prover has checked them, from which it takes every module
 that the change does not touch. What is refused there is refused; a change that is
 proved there is still to be checked whole.
+
+Where tests/all runs several programs beside each other, each of their provers takes one
+of its slots, and a crate's changes wait until the crate is proved.
 """
 
 import os
@@ -16,7 +19,9 @@ import sys
 import tempfile
 import time
 from concurrent.futures import ThreadPoolExecutor, as_completed
+from contextlib import contextmanager
 from pathlib import Path
+from threading import Lock
 
 ROOT = Path(__file__).resolve().parent.parent
 PARTS = ('src', 'specs', 'proofs')
@@ -28,8 +33,58 @@ SHAPE = re.compile(r'has no (field )?`|can be named from here|not in scope|parse
                    r'this tuple has|`rw`: no ')
 
 
+# Set by tests/all for the programs that it runs beside each other: a pipe with a byte for
+# each process that may still begin to work, and a file with the crates that are proved.
+SLOTS, PROVED = 'REAMSTORK_SLOTS', 'REAMSTORK_PROVED'
+
+
 class NotProved(Exception):
     """A crate that is not proved as it stands."""
+
+
+@contextmanager
+def beside():
+    """Makes the slots and the file, and gives a function that puts a crate's name into the
+    file; '*' stands for all of them."""
+    with tempfile.TemporaryDirectory(prefix='beside-') as folder:
+        slots, proved = os.path.join(folder, 'slots'), os.path.join(folder, 'proved')
+        os.mkfifo(slots)
+        pipe = os.open(slots, os.O_RDWR)  # what is in a pipe stays while somebody has it open
+        os.write(pipe, b'.' * JOBS)
+        os.environ[SLOTS], os.environ[PROVED] = slots, proved
+
+        def put(crate):
+            with open(proved, 'a') as file:
+                file.write(crate + '\n')
+
+        put('')
+        yield put
+        del os.environ[SLOTS], os.environ[PROVED]
+        os.close(pipe)
+
+
+@contextmanager
+def slot():
+    """Waits for a slot, and has it inside; without tests/all there is no waiting."""
+    if SLOTS not in os.environ:
+        yield
+        return
+    pipe = os.open(os.environ[SLOTS], os.O_RDWR)
+    os.read(pipe, 1)
+    try:
+        yield
+    finally:
+        os.write(pipe, b'.')
+        os.close(pipe)
+
+
+def wait_for(crate):
+    """Waits until the crate is proved; without tests/all it is taken to be."""
+    while PROVED in os.environ:
+        with open(os.environ[PROVED]) as file:
+            if not {crate, '*'}.isdisjoint(file.read().split('\n')):
+                return
+        time.sleep(0.5)
 
 
 def crates():
@@ -74,14 +129,12 @@ class Baseline:
 
     def __init__(self, kit, crate, folder):
         self.kit, self.crate, self.kept = kit, crate, Path(folder) / crate
-        began = time.monotonic()
         self.kept.mkdir()
         self.take_over()
-        status, out = run(kit.command(crate, ROOT / 'crates' / crate), self.kept)
+        status, out, _ = run(kit.command(crate, ROOT / 'crates' / crate), self.kept)
         if status != 0:
             raise NotProved('%s itself is not proved (run rt check first): %s'
                             % (crate, outcome(status, out)[1]))
-        self.seconds = time.monotonic() - began
 
     def take_over(self):
         rlib = ROOT / 'target/rlib' / (self.crate + '.rlib')
@@ -92,8 +145,8 @@ class Baseline:
             shutil.copytree(rlib / 'toolchain/checked', self.kept / made_by[1].replace('/', '_'))
 
     def check(self, texts, limit=None, whole=False):
-        """The prover's exit status (nothing when out of time) and what it printed
-        for the crate with these files, {name: text}, in place of its own. Where
+        """The prover's exit status (nothing when out of time), what it printed and how
+        long it took for the crate with these files, {name: text}, in place of its own. Where
         `whole` is asked for, every module is proved again."""
         with tempfile.TemporaryDirectory(prefix='changed-') as folder:
             copy, kept = Path(folder) / self.crate, Path(folder) / 'kept'
@@ -104,20 +157,28 @@ class Baseline:
                 (copy / name).write_text(text)
             if not whole:
                 shutil.copytree(self.kept, kept)
-            status, out = run(self.kit.command(self.crate, copy), None if whole else kept, limit)
-        return status, out.replace(str(copy) + '/', '')
+            status, out, took = run(self.kit.command(self.crate, copy),
+                                    None if whole else kept, limit)
+        return status, out.replace(str(copy) + '/', ''), took
 
     def judge(self, texts, limit=None):
-        """The outcome and the line that shows it. What is not refused over the
-        baseline is checked whole."""
-        found = outcome(*self.check(texts, limit))
-        if found[0] == 'survived':
-            found = outcome(*self.check(texts, whole=True))
-        return found
+        """The outcome, the line that shows it, and the prover's seconds. What is not
+        refused over the baseline is checked whole."""
+        status, out, took = self.check(texts, limit)
+        if status == 0:
+            status, out, more = self.check(texts, whole=True)
+            took += more
+        return *outcome(status, out), took
 
 
 def run(words, kept, limit=None):
-    words = words + (['--incremental', kept] if kept else [])
+    with slot():
+        began = time.monotonic()
+        status, out = alone(words + (['--incremental', kept] if kept else []), limit)
+        return status, out, time.monotonic() - began
+
+
+def alone(words, limit):
     p = subprocess.Popen(words, stdout=subprocess.PIPE, stderr=subprocess.STDOUT, text=True,
                          start_new_session=True)
     try:
@@ -150,15 +211,36 @@ def outcome(status, out):
     return 'not compiled' if status == 1 else 'no verdict', first
 
 
+class Baselines:
+    """A baseline for each crate, made when it is first asked for."""
+
+    def __init__(self, kit, plan, folder):
+        self.kit, self.folder, self.made = kit, folder, {}
+        self.locks = {crate: Lock() for crate in plan}
+
+    def of(self, crate):
+        """The crate's, or NotProved, as often as it is asked for."""
+        with self.locks[crate]:
+            if crate not in self.made:
+                wait_for(crate)
+                try:
+                    self.made[crate] = Baseline(self.kit, crate, self.folder)
+                except NotProved as problem:
+                    self.made[crate] = problem
+        if isinstance(self.made[crate], NotProved):
+            raise self.made[crate]
+        return self.made[crate]
+
+
 def over_baselines(kit, plan, one, jobs):
     """Gives (crate, change, what one(crate, baseline, change) says) for each change
     of the plan, {crate: changes}, as they are done, up to `jobs` at once. Calling
     `baseline` gives the crate's, or raises NotProved."""
     with tempfile.TemporaryDirectory(prefix='baselines-') as folder, \
             ThreadPoolExecutor(jobs) as pool:
-        made = {crate: pool.submit(Baseline, kit, crate, folder) for crate in plan}
-        asked = {pool.submit(one, crate, made[crate].result, change): (crate, change)
-                 for crate, changes in plan.items() for change in changes}
+        made = Baselines(kit, plan, folder)
+        asked = {pool.submit(one, crate, lambda crate=crate: made.of(crate), change):
+                 (crate, change) for crate, changes in plan.items() for change in changes}
         try:
             for done in as_completed(asked):
                 yield *asked[done], done.result()
