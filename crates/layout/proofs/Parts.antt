@@ -3,17 +3,15 @@
 use mathlib.Core.Path.{_≡_, refl, sym, ap, ap₂, _∙_}
 use mathlib.Core.Bool.{Bool, true, false, not, _&&_}
 use mathlib.Core.List.{List, [], _∷_, _++_}
-use Prim.Native.Nat.{ℕ, zero, suc, _+_, _-_, _*_, _≤_, _<_, min}
+use Prim.Native.Nat.{ℕ, suc, _+_, _-_, _*_, _≤_, min}
 use native.Mathlib.Nat.{mul-le-mul-left}
 use native.Mathlib.Omega.{arith}
 use lib.Dec.{leb}
-use lib.ListN.{length, getD, take, drop, replicate, length-append, length-take, length-drop, length-replicate, getD-replicate, List·getD-append}
-use lib.Seq.{length-take-le, ext-getD, take-at, drop-at, take-add, drop-drop, getD-append-add}
+use lib.ListN.{length, getD, take, drop, replicate, length-take, length-drop, length-replicate}
+use lib.Seq.{length-take-le, take-at, drop-at, take-add, drop-drop}
 use borrow.Author.Tests.{not-true, not-false}
-use Rattle.model.specs.Lists.{same, upTo}
 use Rattle.model.specs.Table.{Kind, Shaped, rowWords}
 use Rattle.model.proofs.Tests.{leb-same}
-use Rattle.model.proofs.UpTo.{same-false, true-same, length-upTo, upTo-is}
 use Rattle.rows.specs.Rows.{Scratch}
 use Rattle.table.specs.Rows.{places}
 use Rattle.layout.specs.Store.{size, headText, rowsOf, partOf}
@@ -36,40 +34,11 @@ counted r n room e = leb-same r room n room (λ h. omega arith) (λ h. omega ari
 pub scratch-few : {m d : ℕ} {sets ends : List ℕ} (n : ℕ) → Scratch m d sets ends → n ≤ m → Scratch n d sets ends
 scratch-few {m} {d} n s h = let z = mul-le-mul-left (suc d) h in record { places = omega (arith, z, s .places); room = omega (arith, z, s .room) }
 
-pub length-places : (w n : ℕ) → length (places w n) ≡ n + 1
-unfolding places
-length-places w n = simp length-append (omega (arith, length-upTo n (λ i. w * suc i)))
-
 -- the head of a store, and what stands behind it
 module _ (k : Kind) (s : Shaped k) (c n : ℕ) (r : List ℕ) where
   pub head-length : length (headText k c n) ≡ k .head
   unfolding headText
   head-length = omega (arith, length-replicate {A = ℕ} (k .head - 3) 0, s .three)
-
-  pub head-c : getD (headText k c n ++ r) 0 0 ≡ c
-  unfolding headText
-  head-c = refl
-
-  pub head-n : getD (headText k c n ++ r) 1 0 ≡ n
-  unfolding headText
-  head-n = refl
-
-  pub head-mark : getD (headText k c n ++ r) 2 0 ≡ k .mark
-  unfolding headText
-  head-mark = refl
-
-  pub head-zero : (i : ℕ) → (i ≡ 0 → ⊥) → (i ≡ 1 → ⊥) → (i ≡ 2 → ⊥) → i < k .head → getD (headText k c n ++ r) i 0 ≡ 0
-  unfolding headText
-  head-zero i a b d h = List·getD-append (headText k c n) r 0 i (omega (arith, head-length)) ∙ go i a b d h
-    where
-      go : (i : ℕ) → (i ≡ 0 → ⊥) → (i ≡ 1 → ⊥) → (i ≡ 2 → ⊥) → i < k .head → getD (headText k c n) i 0 ≡ 0
-      go zero a b d h = absurd (a refl)
-      go (suc zero) a b d h = absurd (b refl)
-      go (suc (suc zero)) a b d h = absurd (d refl)
-      go (suc (suc (suc i))) a b d h = getD-replicate (k .head - 3) i 0 0 (omega arith)
-
-  pub head-rows : (i : ℕ) → k .head ≤ i → getD (headText k c n ++ r) i 0 ≡ getD r (i - k .head) 0
-  head-rows i h = let y : i ≡ length (headText k c n) + (i - k .head) = omega (arith, head-length) in ap (λ j. getD (headText k c n ++ r) j 0) y ∙ getD-append-add (headText k c n) r (i - k .head) 0
 
 -- two lists of equal first parts' lengths are equal where their parts are
 pub split-equal : (a b x y : List ℕ) → length a ≡ length b → a ++ x ≡ b ++ y → (a ≡ b) × (x ≡ y)
@@ -114,14 +83,3 @@ module _ (k : Kind) (s : Shaped k) (ws : List ℕ) (h : k .head ≤ length ws) w
   of-head c n e =
       let b = split-equal (take 3 ws) (c ∷ n ∷ k .mark ∷ []) (take (k .head - 3) (drop 3 ws)) (replicate (k .head - 3) 0) (length-take-le 3 ws (omega (arith, s .three))) (sym head-parts ∙ e) in
       (ap (λ xs. getD xs 2 0) (sym (three ws (omega (arith, s .three))) ∙ b .0), b .1)
-
--- a slice of zeros
-pub all-zero : (ws : List ℕ) → ((j : ℕ) → j < length ws → getD ws j 0 ≡ 0) → true ≡ same ws (replicate (length ws) 0)
-all-zero ws h = sym (true-same ws (replicate (length ws) 0) (ext-getD 0 ws (replicate (length ws) 0) (sym (length-replicate (length ws) 0)) (λ i l. h i l ∙ sym (getD-replicate (length ws) i 0 0 l))))
-
-pub not-zero : (ws : List ℕ) (i : ℕ) → i < length ws → (getD ws i 0 ≡ 0 → ⊥) → false ≡ same ws (replicate (length ws) 0)
-not-zero ws i l h = sym (same-false ws (replicate (length ws) 0) (λ e. h (ap (λ xs. getD xs i 0) e ∙ getD-replicate (length ws) i 0 0 l)))
-
--- the front, written word by word
-pub front-whole : (k : Kind) (s : Shaped k) (c n : ℕ) (rows : List ℕ) → length rows ≡ rowWords k → upTo (k .head + rowWords k) (λ j. getD (headText k c n ++ rows) j 0) ≡ headText k c n ++ rows
-front-whole k s c n rows l = sym (upTo-is 0 (headText k c n ++ rows) (k .head + rowWords k) (λ j. getD (headText k c n ++ rows) j 0) (simp length-append (omega (arith, head-length k s c n []))) (λ i h. refl))
