@@ -1,14 +1,19 @@
 #!/usr/bin/env python3
 """Tries must-fail edits: small wrong changes that the prover has to refuse.
 
-    tests/must_fail.py [--crate NAME ..] [--only CRATE/LABEL ..] [--all] [--jobs N] [--why] [--cut N]
+    tests/must_fail.py [--crate NAME ..] [--only CRATE/LABEL ..] [--all] [--apart] [--jobs N] [--why] [--cut N]
     tests/must_fail.py --list | --listed | --move CRATE ..
 
 An edit is a file LABEL.edit. Those in crates/CRATE/must-fail are tried by `rt ci`,
 each by a check of its whole crate, and those in tests/must-fail/CRATE here: in a
 copy of the crate, over what `rt check` has proved of it (prover.py), so that only
 what the edit touches is proved again. Run `rt check` first. --all tries both, --jobs
-says how many at once, --why prints the error of each refusal too.
+says how many provers at once, --why prints the error of each refusal too.
+
+Edits of the bodies of several functions, none of which calls another of them, are made
+in one copy: a function is proved from the contracts of those that it calls, so an error
+in its own proof comes from its own edit alone. An edit that is not refused there by such
+an error is tried in a copy of its own; --apart tries all of them so.
 
 The form is that of `rt must-fail`, one line for each part:
     # what must hold and the edit breaks, or what the edit does wrong
@@ -37,11 +42,13 @@ tests/must-fail/kept.txt names, a line CRATE/LABEL for each; it writes the page 
 """
 
 import argparse
+import re
 import subprocess
 import sys
 from collections import Counter
 
-from prover import JOBS, ROOT, Kit, NotProved, crates, over_baselines
+from mutate import Source
+from prover import JOBS, ROOT, SHAPE, Kit, NotProved, crates, over_baselines
 
 HERE = ROOT / 'tests/must-fail'
 PAGE = ROOT / 'docs/EDITS.md'
@@ -83,11 +90,12 @@ class Edit:
     def here(self):
         return HERE in self.path.parents
 
-    def texts(self):
-        """The crate's changed files, {name: text}."""
+    def texts(self, others=None):
+        """The crate's changed files, {name: text}; others are those that are changed
+        already."""
         if self.fault:
             raise Bad(self.fault)
-        texts = {}
+        texts = dict(others or {})
         for file, old, new in self.changes:
             path = ROOT / 'crates' / self.crate / file
             if not file.startswith(('src/', 'specs/')) or '..' in file or not path.is_file():
@@ -115,11 +123,89 @@ def kept():
 
 # ---- trying them
 
-def one(crate, baseline, edit):
+class Functions:
+    """The functions of a crate: where their bodies are, and which ones they call."""
+
+    def __init__(self, crate, file):
+        self.file, source = file, Source((ROOT / 'crates' / crate / file).read_text())
+        self.text, words = source.text, source.words
+        names = {f.name for f in source.functions}
+        self.bodies = {f.name: (source.tokens[f.first].start, source.tokens[f.last].end)
+                       for f in source.functions}
+        self.reached = {f.name: names.intersection(words[f.first:f.last]) for f in source.functions}
+        for _ in names:  # the calls of the calls
+            for found in self.reached.values():
+                found.update(*[self.reached[name] for name in found])
+
+    def changed(self, edit):
+        """The one function whose body has every change of the edit, or nothing."""
+        found = set()
+        for file, old, _ in edit.changes:
+            at = self.text.find(old) if file == self.file else -1
+            found.update([name for name, (first, last) in self.bodies.items()
+                          if first <= at and at + len(old) <= last] or [None])
+        return found.pop() if len(found) == 1 else None
+
+    def apart(self, name, others):
+        return not any(name == other or name in self.reached[other] or other in self.reached[name]
+                       for other in others)
+
+    def groups(self, edits):
+        """The edits, in groups that can be made in one copy, each {function: edit}."""
+        made, alone = [], []
+        for edit in edits:
+            name = None if edit.fault else self.changed(edit)
+            free = [group for group in made if name and self.apart(name, group)]
+            if free:
+                free[0][name] = edit
+            else:
+                (made if name else alone).append({name: edit})
+        return made + alone
+
+
+def own_error(crate, out, text, name):
+    """The first error in the proof of this function itself, or nothing."""
+    if not re.search(r'(?m)^fn %s::%s:? (not proved|no proof)' % (crate, name), out):
+        return None
+    for line in out.splitlines():
+        proof = re.match(r'proofs/([^/]+)/.*\berror\b', line)
+        if proof and name in proof[1].split('+') and 'was not admitted' not in line:
+            return line
+        note = re.match(r'note: src/\w+\.rt:(\d+):\d+: it is not proved that', line)
+        if note and name == function_at(text, int(note[1])):
+            return line
+    return None
+
+
+def function_at(text, line):
+    """The function that begins at this line: its attributes stand before its head."""
+    head = re.search(r'\bfn (\w+)', '\n'.join(text.split('\n')[line - 1:]))
+    return head and head[1]
+
+
+def together(crate, base, group, functions):
+    """The edits of the group that are refused in one copy, each with the line that shows it
+    and its part of the prover's seconds."""
+    texts = {}
+    try:
+        for edit in group.values():
+            texts = edit.texts(texts)
+    except Bad:
+        return {}
+    status, out, took = base.check(texts, LIMIT)
+    found = {}
+    for name, edit in group.items() if status == 1 else ():
+        first = own_error(crate, out, texts[functions.file], name)
+        if first and not SHAPE.search(first):
+            found[edit] = ('refused', first, took / len(group))
+    return found
+
+
+def one(base, edit):
     """The outcome, the line that shows it, and the prover's seconds."""
     try:
-        what, first, took = baseline().judge(edit.texts(), LIMIT)
-    except (Bad, NotProved) as problem:
+        what, first, took = base.judge(edit.texts(), LIMIT)
+    except Bad as problem:
         return 'bad edit', str(problem), 0
     if what == 'shape' and edit.shape:
         what = 'shape, meant'
@@ -142,15 +228,28 @@ def plan(options):
 
 
 def try_all(options):
-    chosen, counts, seconds, wrong = plan(options), Counter(), Counter(), []
-    for crate, edit, found in over_baselines(Kit(), chosen, one, options.jobs):
-        what, first, took = found
-        counts[what] += 1
-        seconds[crate] += took
-        first = '' if what == 'refused' and not options.why else first[:options.cut]
-        print('%-12s %s (%.1f s) %s' % (what, edit.name, took, first), flush=True)
-        if what not in PASSED:
-            wrong.append('FAILED %s: %s %s' % (edit.name, what, first))
+    chosen, kit, counts, seconds, wrong = plan(options), Kit(), Counter(), Counter(), []
+    functions = {crate: Functions(crate, kit.files[crate]) for crate in chosen}
+
+    def each(crate, baseline, group):
+        """What is found of each edit of the group."""
+        try:
+            base = baseline()
+        except NotProved as problem:
+            return {edit: ('bad edit', str(problem), 0) for edit in group.values()}
+        found = together(crate, base, group, functions[crate]) if len(group) > 1 else {}
+        return {edit: found.get(edit) or one(base, edit) for edit in group.values()}
+
+    groups = {crate: [{edit.name: edit} for edit in edits] if options.apart else
+              functions[crate].groups(edits) for crate, edits in chosen.items()}
+    for crate, _, found in over_baselines(kit, groups, each, options.jobs):
+        for edit, (what, first, took) in found.items():
+            counts[what] += 1
+            seconds[crate] += took
+            first = '' if what == 'refused' and not options.why else first[:options.cut]
+            print('%-12s %s (%.1f s) %s' % (what, edit.name, took, first), flush=True)
+            if what not in PASSED:
+                wrong.append('FAILED %s: %s %s' % (edit.name, what, first))
     for crate, edits in chosen.items():
         print('%-12s %3d edits, %6.1f s' % (crate, len(edits), seconds[crate]))
     for line in wrong:
@@ -225,6 +324,7 @@ def main():
     parser.add_argument('--only', nargs='+', default=[])
     parser.add_argument('--jobs', type=int, default=JOBS)
     parser.add_argument('--all', action='store_true')
+    parser.add_argument('--apart', action='store_true')
     parser.add_argument('--why', action='store_true', help='print the error of each refusal too')
     parser.add_argument('--cut', type=int, default=160)
     parser.add_argument('--list', action='store_true')

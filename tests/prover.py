@@ -29,7 +29,7 @@ JOBS = min(os.cpu_count() or 1, 4)  # a check takes up to 1 GB
 # Errors that say that a proof has another shape than the code, rather than that something does not
 # hold. Where it cannot be told, as where a rewrite finds nothing to rewrite, it counts as shape.
 SHAPE = re.compile(r'has no (field )?`|can be named from here|not in scope|parse error|'
-                   r'too (many|few) arguments|this pattern needs a function|this λ.s body is|'
+                   r'too (many|few) arguments|this pattern needs a function|this λ.s body is|this λ has|'
                    r'this tuple has|`rw`: no ')
 
 
