@@ -4,7 +4,7 @@ PREFIX ?= /usr/local
 SECONDS_LONG ?= 3600
 ARCHIVE = target/staticlib/libreamstork.a
 
-.PHONY: help run test lib install example soak bench-speed bench-stack bench-place mutants clean kit tools
+.PHONY: help run test lib install example soak bench-speed bench-stack bench-place mutants must-fail edits-list clean kit tools
 
 help:
 	@echo 'make run [CAPTURE=file.pcap]   prove, build and run the bench program on a capture'
@@ -16,6 +16,8 @@ help:
 	@echo 'make bench-speed, bench-stack  figures of docs/TIMING.md'
 	@echo 'make bench-place               what finding a new rule'"'"'s place costs, in instructions'
 	@echo 'make mutants                   small wrong changes, and whether the prover refuses them'
+	@echo 'make must-fail                 every must-fail edit, over what is proved already'
+	@echo 'make edits-list                the list of must-fail edits, docs/EDITS.md'
 
 # The one thing that is not installed from here: Rattle's kit, which has the prover, the compiler and the C library.
 kit:
@@ -57,6 +59,12 @@ bench-place: lib tools
 
 mutants: kit
 	@tests/mutants.py
+
+must-fail: kit
+	@rt check && tests/must_fail.py --all
+
+edits-list:
+	@tests/must_fail.py --list > docs/EDITS.md.new && mv docs/EDITS.md.new docs/EDITS.md
 
 clean:
 	rm -rf target

@@ -93,9 +93,10 @@
  * 2 n + 1 in each field.  The count of reads is a function of the table
  * and the packet.
  *
- * A lookup touches the cells that it counts and a fixed number of words
- * besides.  check, and with it insert, delete, read and cells, goes over
- * all cells of the store; insert and delete then build the tree anew.
+ * A lookup touches the cells that it counts and six words besides; this
+ * is measured, not proved.  check, and with it insert, delete, read and
+ * cells, goes over all cells of the store; insert and delete then build
+ * the tree anew.
  *
  * The words of a store are a function of c, the default's action and the
  * rules.  Two stores with the same of these have the same words, bit for
@@ -198,7 +199,8 @@ uint32_t reamstork_start_with(uint32_t *words, size_t len, uint32_t c, uint32_t 
  *
  * Done: the store holds the rules that it held and this one, passes the
  * check, and every word behind it is as before.  Refused: all words are as
- * before; an insert is never done halfway.
+ * before; an insert is never done halfway, and no word is written before
+ * it can no longer be refused.
  *
  * Two rules may have equal ranges.  Whether 6 is given does not depend on
  * the order in which rules were inserted, and neither do the words left.
@@ -223,9 +225,10 @@ uint32_t reamstork_delete(uint32_t *words, size_t len, uint32_t number);
  * CHECK A STORE
  *
  *   0  the words are those of a store: word 0 is a c of 5 to 65,536, len
- *      is at least REAMSTORK_WORDS(c), and the first REAMSTORK_WORDS(c)
- *      words hold a table within the limits above, its tree, and every
- *      other cell on the free chain once, laid as docs/ has it
+ *      is at least REAMSTORK_WORDS(c), word 2 is 0, the kind of store that
+ *      there is, and the first REAMSTORK_WORDS(c) words hold a table
+ *      within the limits above, its tree, and every other cell on the
+ *      free chain once, laid as docs/ has it and in no other way
  *   9  otherwise
  *
  * Every store that an accepted start, insert or delete leaves passes.
@@ -270,8 +273,9 @@ reamstork_count reamstork_cells(const uint32_t *words, size_t len);
  * given, and the rule and the reads are those said at the top.  Over any
  * other words the answer follows the walk:
  *
- *   Words.  Word 0 is c.  9 at once unless len is at least 1, c is 5 to
- *   65,536, and len is at least REAMSTORK_WORDS(c).
+ *   Words.  Word 0 is c, and word 2 names the kind of store, which is 0.
+ *   9 at once unless len is at least 3, word 2 is 0, c is 5 to 65,536,
+ *   and len is at least REAMSTORK_WORDS(c).
  *
  *   Fields.  The walk begins at the cell that word 1023 names and goes
  *   through the five fields in order.  Cell k is the words 1024 + 8 k on:
@@ -280,9 +284,11 @@ reamstork_count reamstork_cells(const uint32_t *words, size_t len);
  *   next cell; the first other one leads down, to the cell where the next
  *   field begins.  9 after c cells of one field that all led to the next.
  *
- *   Rule.  The last field leads down to a place p in the table.  9 if p
- *   is above word 1 or above 64.  The rule's number and action are the
- *   words 47 + 15 p and 48 + 15 p.
+ *   Rule.  The last field leads down to p, the word of the rows at which
+ *   a rule's row begins: 0 for the default, 15 for the first rule, 30 for
+ *   the second, and so on.  9 if p is above 15 times word 1, above 15
+ *   times 64, or no multiple of 15, which is the middle of a row.  The
+ *   rule's number and action are the words 47 + p and 48 + p.
  *
  *   Reads.  The number of cells so read, at most 5 c.
  */

@@ -11,7 +11,9 @@ REFUSED = (9, 0, 0, 0)
 
 def walk(words, values):
     """(answer, rule, action, reads) for the words that a lookup is lent."""
-    if not words or not 5 <= words[0] <= 65536 or len(words) < 1024 + 8 * words[0]:
+    if len(words) < 3 or words[2] != 0:
+        return REFUSED
+    if not 5 <= words[0] <= 65536 or len(words) < 1024 + 8 * words[0]:
         return REFUSED
     c, cell, reads = words[0], words[1023], 0
     for value in values:
@@ -26,7 +28,7 @@ def walk(words, values):
         else:
             return REFUSED
         cell = below
-    place = cell
-    if place > words[1] or place > 64:
+    place, rest = divmod(cell, 15)
+    if rest or place > words[1] or place > 64:
         return REFUSED
     return (0, words[47 + 15 * place], words[48 + 15 * place], reads)

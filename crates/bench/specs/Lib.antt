@@ -1,3 +1,2 @@
 pub mod Store
-pub mod Lines
-pub mod Records
+pub mod Room

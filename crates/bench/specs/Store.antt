@@ -4,7 +4,7 @@ use mathlib.Core.List.{List}
 use Prim.Native.Nat.{ℕ}
 use Rattle.model.specs.Ipv4.{ipv4}
 use Rattle.model.specs.Bench.{rule10, rule20}
-use Rattle.stored.specs.Store.{startWords, insertWords}
+use Rattle.layout.specs.Store.{startWords, insertWords}
 
 -- "It starts a store of 1,920 cells without a default action, inserts rules 10 and 20": what the words hold then, where a start without an action sets 1
 abbrev pub benchWords : List ℕ → List ℕ

@@ -8,7 +8,7 @@ use native.Mathlib.Omega.{arith}
 use lib.ListN.{length, take, set, length-set, length-replicate, replicate-append-replicate}
 use lib.Seq.{take-suc-set}
 use Rattle.model.specs.Rules.{stop}
-use Rattle.cells.specs.Text.{cell, frees, row, width, first, marks, belows, part}
+use Rattle.cells.specs.Text.{onlyDown, cell, frees, row, width, first, marks, belows, part}
 use Rattle.cells.specs.States.{zeros, State}
 use Rattle.cells.proofs.Text.{frees-cons}
 use Rattle.cells.proofs.State.{st-undo}
@@ -42,11 +42,11 @@ clear-start ws n c e l m =
     }
 
 module _ {ws : List ℕ} {c k : ℕ} (s : Clearing ws c k) (p : 0 < k) where
-  pub clear-turn : State ws c (k - 1 + 1) (k - 1) (blank c (k - 1)) (cell 0 0 0 (frees (k - 1 + 1) (c - k)))
+  pub clear-turn : State ws c (k - 1 + 1) (k - 1) (blank c (k - 1)) (cell 0 0 (onlyDown 0) (frees (k - 1 + 1) (c - k)))
   clear-turn =
       let z : k - 1 + 1 ≡ k = omega arith in
       let y : 8 * k ≡ 8 * (k - 1) + 8 = omega arith in
-      rw z (st-undo (k - 1) (blank c (k - 1)) (cell 0 0 0 []) (cell 0 0 0 (frees k (c - k))) (rw (y, zeros-add (8 * (k - 1)) 8) at s) refl (omega arith))
+      rw z (st-undo (k - 1) (blank c (k - 1)) (cell 0 0 (onlyDown 0) []) (cell 0 0 (onlyDown 0) (frees k (c - k))) (rw (y, zeros-add (8 * (k - 1)) 8) at s) refl (omega arith))
 
   pub clear-next : k ≤ c → Clearing (gave ws (k - 1)) c (k - 1)
   clear-next l = rw (frees-cons (k - 1) (c - (k - 1)) (c - k) (omega arith)) (back clear-turn)

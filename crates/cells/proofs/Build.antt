@@ -2,20 +2,23 @@
 -- Assumes nothing.
 use mathlib.Core.Path.{_≡_, refl, sym, ap, _∙_}
 use mathlib.Core.List.{List, [], _∷_, _++_, reverse, reverseAux, reverseAux-reverseAux-nil}
-use Prim.Native.Nat.{ℕ, suc, _+_, _-_, _*_, _≤_, _<_}
+use Prim.Native.Nat.{ℕ, _+_, _-_, _*_, _≤_, _<_}
 use native.Mathlib.Omega.{arith}
-use lib.ListN.{length, getD, drop, set, length-reverse}
+use lib.ListN.{length, getD, take, drop, set, length-reverse}
 use lib.Seq.{drop-length, getD-set-same, getD-set-other}
 use Rattle.model.specs.Lists.{keep}
 use Rattle.model.specs.Rules.{covers, ends, Tree, chain}
 use Rattle.rows.specs.Rows.{fieldAt, firstOf, treeAt, underAt, Flat}
 use Rattle.rows.proofs.Sets.{tree-none, tree-step}
 use Rattle.rows.proofs.Insert.{back}
-use Rattle.cells.specs.Text.{at, word, frees, Run, len, low, row, width, under, first, marks, belows, text}
-use Rattle.cells.specs.States.{head, wrote, State, Spare, plain, Rows, Lays, Held, Builds}
+use Rattle.cells.specs.Text.{at, word, onlyDown, frees, Run, len, low, row, width, under, first, marks, belows, treeText}
+use Rattle.cells.specs.declared.Below.{Below}
+use Rattle.cells.specs.States.{firstFree, hung, wrote, State, Spare, plain, Rows, Lays, Held, Builds, Hangs, Narrows, Built}
 use Rattle.cells.proofs.Text.{marks-len}
 use Rattle.cells.proofs.State.{st-head, st-length, st-put, both-past, both-back}
 use Rattle.cells.proofs.Runs.{took, rows-none, run-room, run-built}
+use Rattle.cells.proofs.Lent.{lent}
+use borrow.Rule.Slice.PartMut.{midOf, putMid, take-put}
 use Rattle.cells.proofs.Middle.{Rest, done, next, join, count, row-put, Mid, mid-wide, run-word}
 
 -- where the run of the ends es is laid down to the i-th: there is room for the others and n cells more
@@ -33,10 +36,10 @@ module _ {ws es : List ℕ} {h c a n : ℕ} {q : List ℕ} {i : ℕ} (b : Laying
   more : i + n ≡ 1 + (i - 1 + n)
   more = omega arith
 
-  pub lay-room : at (head ws) 2 < length ws
+  pub lay-room : at (firstFree ws) 3 < length ws
   lay-room = run-room (b .rows) _ more
 
-  pub lay-built : {e : ℕ} → e ≡ getD es (i - 1) 0 → Laying (wrote (took ws) (head ws) e h 0) es (head ws) c a n q (i - 1)
+  pub lay-built : {e : ℕ} → e ≡ getD es (i - 1) 0 → Laying (wrote (took ws) (firstFree ws) e h (onlyDown 0)) es (firstFree ws) c a n q (i - 1)
   unfolding plain
   lay-built {e} x =
       let z : drop (i - 1) es ≡ e ∷ drop i es = rw x (back es i p (b .most)) in
@@ -46,15 +49,18 @@ pub laid : {ws es : List ℕ} {h c a n : ℕ} {q : List ℕ} {i : ℕ} → Layin
 laid {ws} {es} {h} {c} {a} {n} {q} {i} b l = let z : i ≡ 0 = omega arith in let y : 0 + n ≡ n = omega arith in rw y at (rw z at (b .rows))
 
 -- the end of a cell that is written
-pub wrote-end : (ws : List ℕ) (k e x d : ℕ) → at k 2 < length ws → word (wrote ws k e x d) k 0 ≡ e
+pub wrote-end : (ws : List ℕ) (k e x : ℕ) (d : Below) → at k 3 < length ws → word (wrote ws k e x d) k 0 ≡ e
 wrote-end ws k e x d h =
     let l = set ws (at k 0) e in
-    getD-set-other (set l (at k 1) x) (at k 2) (at k 0) d 0 (λ q. omega arith) ∙ (getD-set-other l (at k 1) (at k 0) x 0 (λ q. omega arith) ∙ getD-set-same ws (at k 0) e 0 (omega arith))
+    let m = set l (at k 1) x in
+    getD-set-other (set m (at k 2) (d .down)) (at k 3) (at k 0) (d .side) 0 (λ q. omega arith)
+    ∙ getD-set-other m (at k 2) (at k 0) (d .down) 0 (λ q. omega arith)
+    ∙ (getD-set-other l (at k 1) (at k 0) x 0 (λ q. omega arith) ∙ getD-set-same ws (at k 0) e 0 (omega arith))
 
 -- the rest of a run that has nothing below it, from its highest end on
 unfoldable pub bare : List ℕ → Rest
 bare [] = done
-bare (e ∷ es) = next e 0 (bare es)
+bare (e ∷ es) = next e (onlyDown 0) (bare es)
 
 count-bare : (es : List ℕ) → count (bare es) ≡ length es
 unfolding bare count
@@ -81,13 +87,13 @@ unfolding under
 under-more u [] ds = omega arith
 under-more u (e ∷ up) ds = omega (arith, under-more u up (e ∷ ds))
 
-low-plain : (c a : ℕ) (u : ℕ → Tree ℕ) (es : List ℕ) → low c (plain es) a ≡ first c (chain u es) a
+low-plain : (c a : ℕ) (u : ℕ → Tree ℕ) (es : List ℕ) → onlyDown (low c (plain es) a) ≡ first c (chain u es) a
 unfolding plain low first
 low-plain c a u [] = refl
-low-plain c a u (e ∷ es) = ap (λ k. a + k) (len-plain es ∙ sym (width-chain u es))
+low-plain c a u (e ∷ es) = ap (λ k. onlyDown (a + k)) (len-plain es ∙ sym (width-chain u es))
 
 -- the free chain begins behind a run
-pub past-run : {ws : List ℕ} {h c a n : ℕ} {q : List ℕ} (es : List ℕ) → Rows ws h c a n q (plain es) → head ws ≡ a + length es
+pub past-run : {ws : List ℕ} {h c a n : ℕ} {q : List ℕ} (es : List ℕ) → Rows ws h c a n q (plain es) → firstFree ws ≡ a + length es
 past-run es b = st-head (b .state) ∙ rw (len-plain es)
 
 -- where build_chain stands, at cell k: below the ends ds all stands, and below the others, `up` from the highest on, nothing yet
@@ -119,7 +125,7 @@ pub record Turn (ws : List ℕ) (c a n : ℕ) (q : List ℕ) (k : ℕ) (u : ℕ 
   pub ds : List ℕ
   pub is : reverseAux up (e ∷ ds) ≡ es
   pub at-k : k ≡ a + width (chain u ds)
-  pub mid : Mid ws c a (a + length es) (under (chain u es) - under (chain u ds) + n) q (chain u ds) (next e 0 (bare up))
+  pub mid : Mid ws c a (a + length es) (under (chain u es) - under (chain u ds) + n) q (chain u ds) (next e (onlyDown 0) (bare up))
 
 pub turns : {ws : List ℕ} {c a n k : ℕ} {q : List ℕ} {u : ℕ → Tree ℕ} {es : List ℕ} → Filling ws c a n q k u es → k < a + length es → Turn ws c a n q k u es
 unfolding bare count
@@ -143,13 +149,13 @@ module _ {ws : List ℕ} {c a n k : ℕ} {q : List ℕ} {u : ℕ → Tree ℕ} {
   Left = under (chain u es) - under (chain u (o .e ∷ o .ds)) + n
 
   abbrev Whole : Run
-  Whole = join (marks c P B) (next (o .e) 0 (bare (o .up)))
+  Whole = join (marks c P B) (next (o .e) (onlyDown 0) (bare (o .up)))
 
   abbrev Before : List ℕ
   Before = q ++ row c Whole a (belows c P B [])
 
   whole-wide : B ≡ a + len Whole
-  whole-wide = mid-wide c a B P (next (o .e) 0 (bare (o .up))) (o .mid .wide)
+  whole-wide = mid-wide c a B P (next (o .e) (onlyDown 0) (bare (o .up))) (o .mid .wide)
 
   left-is : under (chain u es) - under P + n ≡ width U + under U + Left
   unfolding under
@@ -168,7 +174,7 @@ module _ {ws : List ℕ} {c a n k : ℕ} {q : List ℕ} {u : ℕ → Tree ℕ} {
   -- the end that the cell has
   turn-word : word ws k 0 ≡ o .e
   unfolding join
-  turn-word = run-word P B (o .e) 0 (bare (o .up)) _ (o .mid .state) k 0 (o .at-k)
+  turn-word = run-word P B (o .e) (onlyDown 0) (bare (o .up)) _ (o .mid .state) k 0 (o .at-k)
 
   module _ (v : Tree ℕ) (w : v ≡ u (word ws k 0)) where
     is-u : v ≡ U
@@ -177,48 +183,48 @@ module _ {ws : List ℕ} {c a n k : ℕ} {q : List ℕ} {u : ℕ → Tree ℕ} {
     pub turn-spare : Spare ws c (width v + under v)
     turn-spare = rw is-u (record { a = _; more = _; q = _; state = turn-state })
 
-    module _ (ws' : List ℕ) (g : ℕ) (below : Builds ws ws' g c v) where
+    module _ (ws' : List ℕ) (g : Below) (below : Builds ws ws' g c v) where
       turn-held : Held ws' g c (B + under P) Left Before U
       turn-held = (rw is-u at below) _ _ _ turn-state
 
-      pub down-room : at k 2 < length ws'
+      pub down-room : at k 3 < length ws'
       down-room = omega (arith, turn-lt, turn-held .state .tot)
 
-      pub filled : Filling (set ws' (at k 2) g) c a n q (k + 1) u es
+      pub filled : Filling (hung ws' k g) c a n q (k + 1) u es
       unfolding join count marks belows under width
       filled =
           let y = B + under P in
           let M = marks c P B in
           let x : y + width U + under U ≡ B + (under P + (width U + under U)) = omega arith in
-          let r = text c U y (frees (y + width U + under U) Left) in
+          let r = treeText c U y (frees (y + width U + under U) Left) in
           let s1 = both-back a B q Whole P r whole-wide (turn-held .state) in
-          let s2 = st-put s1 k 2 (8 * len M + 2) (first c U y) (omega (arith, o .at-k, marks-len c P B)) in
-          let s3 = rw (row-put c M (o .e) 0 (first c U y) (bare (o .up)) a (belows c P B r)) at s2 in
+          let s2 = st-put (st-put s1 k 2 (8 * len M + 2) (first c U y .down) (omega (arith, o .at-k, marks-len c P B))) k 3 (8 * len M + 3) (first c U y .side) (omega (arith, o .at-k, marks-len c P B)) in
+          let s3 = rw (row-put c M (o .e) (onlyDown 0) (first c U y) (bare (o .up)) a (belows c P B r)) at s2 in
           record {
             up = o .up;
             ds = o .e ∷ o .ds;
             is = o .is;
             at-k = omega (arith, o .at-k, width-chain u (o .ds));
-            mid = record { wide = omega (arith, o .mid .wide); state = rw (turn-held .lowest) (rw x at s3) };
+            mid = record { wide = omega (arith, o .mid .wide); state = rw (turn-held .top) (rw x at s3) };
           }
 
-pub filled-all : {ws ws₀ : List ℕ} {h c a n n' k : ℕ} {q : List ℕ} {u : ℕ → Tree ℕ} {es : List ℕ} → Filling ws c a n q k u es → Rows ws₀ h c a n' q (plain es) → a + length es ≤ k → Held ws h c a n q (chain u es)
+pub filled-all : {ws ws₀ : List ℕ} {h c a n n' k : ℕ} {q : List ℕ} {u : ℕ → Tree ℕ} {es : List ℕ} → Filling ws c a n q k u es → Rows ws₀ h c a n' q (plain es) → a + length es ≤ k → Held ws (onlyDown h) c a n q (chain u es)
 unfolding bare count join
 filled-all {ws} {ws₀} {h} {c} {a} {n} {n'} {k} {q} {u} {es} g b l = go (g .up) (g .is) (g .mid)
   where
-    go : (up : List ℕ) → reverseAux up (g .ds) ≡ es → Mid ws c a (a + length es) (under (chain u es) - under (chain u (g .ds)) + n) q (chain u (g .ds)) (bare up) → Held ws h c a n q (chain u es)
+    go : (up : List ℕ) → reverseAux up (g .ds) ≡ es → Mid ws c a (a + length es) (under (chain u es) - under (chain u (g .ds)) + n) q (chain u (g .ds)) (bare up) → Held ws (onlyDown h) c a n q (chain u es)
     go [] i m =
         let y : under (chain u es) - under (chain u es) + n ≡ n = omega arith in
-        record { lowest = b .lowest ∙ low-plain c a u es; state = rw (width-chain u es) (rw y at (rw i at (m .state))) }
+        record { top = ap onlyDown (b .lowest) ∙ low-plain c a u es; state = rw (width-chain u es) (rw y at (rw i at (m .state))) }
     go (e ∷ up) i m = absurd (omega (arith, g .at-k, m .wide, width-chain u (g .ds)))
 
 -- The tree of rules: where no field is left, and where one is.
-pub built-none : {ws : List ℕ} {c a b : ℕ} {q : List ℕ} (rules ps : List ℕ) (f n m : ℕ) → n ≡ 0 → b ≡ firstOf ps → State ws c a a q (frees a (width (treeAt rules f n ps) + under (treeAt rules f n ps) + m)) → Held ws b c a m q (treeAt rules f n ps)
+pub built-none : {ws : List ℕ} {c a : ℕ} {b : Below} {q : List ℕ} (rules ps : List ℕ) (f n m : ℕ) → n ≡ 0 → b ≡ onlyDown (firstOf ps) → State ws c a a q (frees a (width (treeAt rules f n ps) + under (treeAt rules f n ps) + m)) → Held ws b c a m q (treeAt rules f n ps)
 unfolding width under marks row belows first
 built-none {ws} {c} {a} {b} {q} rules ps f n m e h s =
     let z : a + 0 + 0 ≡ a = omega arith in
     let y : 0 + 0 + m ≡ m = omega arith in
-    rw (tree-none rules f n ps e) (record { lowest = h; state = rw z (rw (tree-none rules f n ps e, y) at s) })
+    rw (tree-none rules f n ps e) (record { top = h; state = rw z (rw (tree-none rules f n ps e, y) at s) })
 
 pub split : {ws : List ℕ} {c a : ℕ} {q : List ℕ} (rules ps : List ℕ) (f n m : ℕ) → (n ≡ 0 → ⊥) → State ws c a a q (frees a (width (treeAt rules f n ps) + under (treeAt rules f n ps) + m))
     → State ws c a a q (frees a (length (ends (fieldAt rules f) ps) + (under (chain (underAt rules f n ps) (ends (fieldAt rules f) ps)) + m)))
@@ -231,6 +237,48 @@ split {ws} {c} {a} {q} rules ps f n m nz s =
 pub under-is : (rules ps qs : List ℕ) (f n e : ℕ) → qs ≡ keep (covers (fieldAt rules f) e) ps → treeAt rules (f + 1) (n - 1) qs ≡ underAt rules f n ps e
 unfolding underAt
 under-is rules ps qs f n e k = rw k
+
+-- the run of the field's ends, and room for what is below it and m cells more
+abbrev pub Run-of : List ℕ → ℕ → ℕ → List ℕ → List ℕ → ℕ → ℕ → ℕ → ℕ → List ℕ → Type 0
+Run-of ws h c rules ps f d a m q = Rows ws h c a (under (chain (underAt rules f d ps) (ends (fieldAt rules f) ps)) + m) q (plain (ends (fieldAt rules f) ps))
+
+-- where the loop of build_chain stands, over words and sets that stood at its start: the rules and the set stay
+pub record Filled (base : ℕ) (ws₀ ws sets₀ sets ends₀ ends' : List ℕ) (n h c f d k₀ k : ℕ) : Type 0 where
+  pub fills : (a m : ℕ) (q : List ℕ) → k₀ ≡ a → Run-of (drop base ws₀) h c (take base ws₀) (take n sets₀) f d a m q → Filling (drop base ws) c a m q k (underAt (take base ws₀) f d (take n sets₀)) (ends (fieldAt (take base ws₀) f) (take n sets₀))
+  pub kept : take base ws ≡ take base ws₀
+  pub long : length ws ≡ length ws₀
+  pub set-kept : take n sets ≡ take n sets₀
+  pub sets-long : length sets ≡ length sets₀
+  pub ends-long : length ends' ≡ length ends₀
+
+pub filled-start : (base : ℕ) (ws sets ends' : List ℕ) (n h c f d k : ℕ) → Filled base ws ws sets sets ends' ends' n h c f d k k
+filled-start base ws sets ends' n h c f d k = record { fills = λ a m q e b. rw e (filling _ _ b); kept = refl; long = refl; set-kept = refl; sets-long = refl; ends-long = refl }
+
+-- a turn: m places cover the end of cell k, and the tree of their rules is below it
+module _ {base : ℕ} {ws₀ ws sets₀ sets ends₀ ends' : List ℕ} {n h c f d k₀ k : ℕ} (g : Filled base ws₀ ws sets₀ sets ends₀ ends' n h c f d k₀ k) where
+  abbrev Under : ℕ → Tree ℕ
+  Under = underAt (take base ws₀) f d (take n sets₀)
+
+  pub fill-turn : (a m : ℕ) (q : List ℕ) → k₀ ≡ a → Run-of (drop base ws₀) h c (take base ws₀) (take n sets₀) f d a m q → k < firstFree (drop base ws₀) → Turn (drop base ws) c a m q k Under (ends (fieldAt (take base ws₀) f) (take n sets₀))
+  fill-turn a m q e b l = turns (g .fills a m q e b) (omega (arith, past-run _ b))
+
+  module _ {sets' : List ℕ} {m e : ℕ} (v : Narrows (take base ws) sets sets' n m f e) (w : e ≡ word (drop base ws) k 0) (long : length sets' ≡ length sets) (fits : n ≤ length sets) where
+    pub below-is : treeAt (take base ws) (f + 1) (d - 1) (take m (midOf n (length sets' - n) sets')) ≡ Under (word (drop base ws) k 0)
+    below-is =
+        rw (lent n sets' (omega arith), g .kept)
+        (under-is (take base ws₀) (take n sets₀) _ f d (word (drop base ws) k 0) (rw (g .kept, g .set-kept, w) at (v .next)))
+
+    pub fill-on : (ys : List ℕ) {ws1 ws2 ends2 : List ℕ} {down : Below} → Built base ws ws1 down c (treeAt (take base ws) (f + 1) (d - 1) (take m (midOf n (length sets' - n) sets'))) → length ws1 ≡ length ws
+        → Hangs base ws1 ws2 k down → length ws2 ≡ length ws1 → length (putMid n (length sets' - n) sets' ys) ≡ length sets' → length ends2 ≡ length ends' → k < firstFree (drop base ws₀)
+        → Filled base ws₀ ws2 sets₀ (putMid n (length sets' - n) sets' ys) ends₀ ends2 n h c f d k₀ (k + 1)
+    fill-on ys b l1 p l2 l3 l4 u = record {
+      fills = λ a m q e r. rw (p .hangs) (filled (fill-turn a m q e r u) _ below-is _ _ (b .builds));
+      kept = p .kept ∙ b .kept ∙ g .kept;
+      long = l2 ∙ l1 ∙ g .long;
+      set-kept = take-put n (length sets' - n) sets' ys (omega arith) ∙ v .kept ∙ g .set-kept;
+      sets-long = l3 ∙ long ∙ g .sets-long;
+      ends-long = l4 ∙ g .ends-long;
+    }
 
 -- Where all rules have one range from 0 the chain is one cell, at k, and the same rules are below it.
 pub one-first : {ws rules ps : List ℕ} {f d c e : ℕ} → (d ≡ 0 → ⊥) → Flat rules f ps e → Spare ws c (width (treeAt rules f d ps) + under (treeAt rules f d ps)) → Spare ws c 1
@@ -260,9 +308,9 @@ module _ (n : ℕ) {ws ws1 rules ps : List ℕ} {f d c a e k : ℕ} {q : List �
   pub one-spare : Spare ws1 c (width (treeAt rules (f + 1) (d - 1) ps) + under (treeAt rules (f + 1) (d - 1) ps))
   one-spare = turn-spare one-turn _ one-below
 
-  module _ (ws2 : List ℕ) (g : ℕ) (b : Builds ws1 ws2 g c (treeAt rules (f + 1) (d - 1) ps)) where
-    pub one-room : at k 2 < length ws2
+  module _ (ws2 : List ℕ) (g : Below) (b : Builds ws1 ws2 g c (treeAt rules (f + 1) (d - 1) ps)) where
+    pub one-room : at k 3 < length ws2
     one-room = down-room one-turn _ one-below ws2 g b
 
-    pub one-built : Held (set ws2 (at k 2) g) k c a n q (treeAt rules f d ps)
+    pub one-built : Held (hung ws2 k g) (onlyDown k) c a n q (treeAt rules f d ps)
     one-built = rw (tree-step rules f d ps nz) (filled-all (filled one-turn _ one-below ws2 g b) one-run (omega (arith, one-at, ap length (l .one))))

@@ -6,19 +6,13 @@ use Prim.Native.Nat.{ℕ, _+_, _-_, _*_, _≤_, _<_}
 use native.Mathlib.Omega.{arith}
 use lib.ListN.{length}
 use Rattle.model.specs.Rules.{Tree, names, stop, loc}
-use Rattle.cells.specs.Text.{at, word, frees, Run, nil, len, low, row, width, under, first, marks, belows, text}
+use Rattle.cells.specs.Text.{at, word, belowAt, frees, Run, nil, len, low, row, width, under, first, marks, belows, treeText}
+use Rattle.cells.specs.declared.Below.{Below}
 use Rattle.cells.specs.Planted.{Deep}
 use Rattle.cells.specs.States.{State, Rows, Held}
-use Rattle.cells.proofs.Text.{marks-len}
+use Rattle.cells.proofs.From.{low-first}
 use Rattle.cells.proofs.State.{st-length, both-past, both-back}
 use Rattle.cells.proofs.Middle.{Rest, done, next, join, count, Mid, mid-wide, run-word}
-
--- where a walk of a chain begins is the last cell of its run
-low-first : (c : ℕ) (t : Tree ℕ) (a b d : ℕ) → Deep t d → 0 < d → low c (marks c t b) a ≡ first c t a
-unfolding marks low first Deep
-low-first c (names x) a b d h p = absurd (omega arith)
-low-first c stop a b d h p = refl
-low-first c (loc e u t) a b d h p = ap (λ k. a + k) (marks-len c t b)
 
 -- where the walk of free_chain stands, at cell k: below p, which is left, all stands, and what was below the rest l of the run is free. h is the chain's lowest location, and big the number of cells from b on.
 pub record Going (ws : List ℕ) (d k h c a b : ℕ) (q : List ℕ) (big : ℕ) : Type 0 where
@@ -26,7 +20,7 @@ pub record Going (ws : List ℕ) (d k h c a b : ℕ) (q : List ℕ) (big : ℕ) 
   pub p : Tree ℕ
   pub l : Rest
   pub deep : Deep p d
-  pub at-k : k ≡ first c p a
+  pub at-k : k ≡ first c p a .down
   pub lowest : h ≡ low c (join (marks c p b) l) a
   pub mid : Mid ws c a b n q p l
   pub sum : under p + n ≡ big
@@ -44,14 +38,14 @@ pub record Opened (ws : List ℕ) (d k h c a b : ℕ) (q : List ℕ) (big : ℕ)
   pub at-k : k ≡ a + width p
   pub lowest : h ≡ low c (join (marks c p b) (next e (first c u (b + under p)) l)) a
   pub wide : b ≡ a + (width p + (count l + 1))
-  pub state : State ws c (b + under p + width u + under u) a q (row c (join (marks c p b) (next e (first c u (b + under p)) l)) a (belows c p b (text c u (b + under p) (frees (b + under p + width u + under u) n))))
+  pub state : State ws c (b + under p + width u + under u) a q (row c (join (marks c p b) (next e (first c u (b + under p)) l)) a (belows c p b (treeText c u (b + under p) (frees (b + under p + width u + under u) n))))
   pub sum : under p + (width u + under u + n) ≡ big
 
 pub opens : {ws : List ℕ} {d k h c a b big : ℕ} {q : List ℕ} → Going ws d k h c a b q big → 0 < d → (k ≡ c → ⊥) → Opened ws d k h c a b q big
 unfolding Deep first marks join belows under width
 opens {ws} {d} {k} {h} {c} {a} {b} {big} {q} g z w = rw (g .sum) at (opened (g .n) (g .p) (g .l) (g .deep) (g .at-k) (g .lowest) (g .mid))
   where
-    opened : (n : ℕ) (p : Tree ℕ) (l : Rest) → Deep p d → k ≡ first c p a → h ≡ low c (join (marks c p b) l) a → Mid ws c a b n q p l → Opened ws d k h c a b q (under p + n)
+    opened : (n : ℕ) (p : Tree ℕ) (l : Rest) → Deep p d → k ≡ first c p a .down → h ≡ low c (join (marks c p b) l) a → Mid ws c a b n q p l → Opened ws d k h c a b q (under p + n)
     opened n (names r) l p f v m = absurd (omega (arith, p))
     opened n stop l p f v m = absurd (w f)
     opened n (loc e u t) l p f v m =
@@ -62,7 +56,7 @@ opens {ws} {d} {k} {h} {c} {a} {b} {big} {q} g z w = rw (g .sum) at (opened (g .
 abbrev pub left-of : ℕ → ℕ → ℕ
 left-of c k = (k + 1) - 65537 * (1 - (c - k))
 
-first-less : (c : ℕ) (t : Tree ℕ) (a d : ℕ) → Deep t d → 0 < d → a + width t < c → c ≤ 65536 → left-of c (first c t a) < left-of c (a + width t)
+first-less : (c : ℕ) (t : Tree ℕ) (a d : ℕ) → Deep t d → 0 < d → a + width t < c → c ≤ 65536 → left-of c (first c t a .down) < left-of c (a + width t)
 unfolding first Deep width
 first-less c (names x) a d h p l m = absurd (omega arith)
 first-less c stop a d h p l m = omega arith
@@ -83,10 +77,10 @@ module _ {ws : List ℕ} {d k h c a b big : ℕ} {q : List ℕ} (o : Opened ws d
   open-lt = omega (arith, o .wide, o .at-k, st-length (both-past a b q Whole (o .p) _ whole-wide (o .state)))
 
   -- what stands below the location
-  pub open-held : Held ws (word ws k 2) c (b + under (o .p)) (o .n) Before (o .u)
+  pub open-held : Held ws (belowAt ws k) c (b + under (o .p)) (o .n) Before (o .u)
   unfolding join
   open-held = record {
-    lowest = run-word (o .p) b _ _ (o .l) _ (o .state) k 2 (o .at-k);
+    top = rw (run-word (o .p) b _ _ (o .l) _ (o .state) k 2 (o .at-k), run-word (o .p) b _ _ (o .l) _ (o .state) k 3 (o .at-k));
     state = both-past a b q Whole (o .p) _ whole-wide (o .state);
   }
 
@@ -95,7 +89,7 @@ module _ {ws : List ℕ} {d k h c a b big : ℕ} {q : List ℕ} (o : Opened ws d
     freed-back : State ws' c (b + under (o .p)) a q (row c Whole a (belows c (o .p) b (frees (b + under (o .p)) (width (o .u) + under (o .u) + o .n))))
     freed-back = both-back a b q Whole (o .p) _ whole-wide s
 
-    freed-next : word ws' k 1 ≡ first c (o .p) a
+    freed-next : word ws' k 1 ≡ first c (o .p) a .down
     unfolding join
     freed-next = run-word (o .p) b _ _ (o .l) _ freed-back k 1 (o .at-k) ∙ low-first c (o .p) a b d (o .deep) (o .left)
 
@@ -119,15 +113,15 @@ module _ {ws : List ℕ} {d k h c a b big : ℕ} {q : List ℕ} (o : Opened ws d
     }
 
 -- the walk starts
-pub going : {ws : List ℕ} {d k c a n : ℕ} {q : List ℕ} {t : Tree ℕ} → Deep t d → Held ws k c a n q t → 0 < d → Going ws d k k c a (a + width t) q (under t + n)
+pub going : {ws : List ℕ} {d : ℕ} {k : Below} {c a n : ℕ} {q : List ℕ} {t : Tree ℕ} → Deep t d → Held ws k c a n q t → 0 < d → Going ws d (k .down) (k .down) c a (a + width t) q (under t + n)
 unfolding join count
 going {ws} {d} {k} {c} {a} {n} {q} {t} p h l = record {
   n = n;
   p = t;
   l = done;
   deep = p;
-  at-k = h .lowest;
-  lowest = h .lowest ∙ sym (low-first c t a (a + width t) d p l);
+  at-k = ap (λ x. x .down) (h .top);
+  lowest = ap (λ x. x .down) (h .top) ∙ sym (low-first c t a (a + width t) d p l);
   mid = record { wide = omega arith; state = h .state };
   sum = refl;
 }
@@ -142,7 +136,7 @@ pub rans : {ws : List ℕ} {d k h c a b big : ℕ} {q : List ℕ} → Going ws d
 unfolding Deep first marks belows under width
 rans {ws} {d} {k} {h} {c} {a} {b} {big} {q} g z w = rw (g .sum) at (ran (g .n) (g .p) (g .l) (g .deep) (g .at-k) (g .lowest) (g .mid))
   where
-    ran : (n : ℕ) (p : Tree ℕ) (l : Rest) → Deep p d → k ≡ first c p a → h ≡ low c (join (marks c p b) l) a → Mid ws c a b n q p l → Ran ws h c a b q (under p + n)
+    ran : (n : ℕ) (p : Tree ℕ) (l : Rest) → Deep p d → k ≡ first c p a .down → h ≡ low c (join (marks c p b) l) a → Mid ws c a b n q p l → Ran ws h c a b q (under p + n)
     ran n (names r) l p f v m = absurd (omega (arith, p))
     ran n stop l p f v m =
         let x = mid-wide c a b stop l (m .wide) in
@@ -159,7 +153,7 @@ ran-all {ws} {ws'} {h} {c} {a} {q} t n r s =
     rw e at s
 
 -- where no field is left nothing is to be freed
-pub free-none : {ws : List ℕ} {d k c a n : ℕ} {q : List ℕ} {t : Tree ℕ} → Deep t d → Held ws k c a n q t → d ≡ 0 → State ws c a a q (frees a (width t + under t + n))
+pub free-none : {ws : List ℕ} {d : ℕ} {k : Below} {c a n : ℕ} {q : List ℕ} {t : Tree ℕ} → Deep t d → Held ws k c a n q t → d ≡ 0 → State ws c a a q (frees a (width t + under t + n))
 unfolding Deep marks row belows under width
 free-none {a = a} {n = n} {t = names r} p h w = let y : 0 + 0 + n ≡ n = omega arith in let z : a + 0 + 0 ≡ a = omega arith in rw y (rw z at (h .state))
 free-none {t = stop} p h w = absurd (omega (arith, p))

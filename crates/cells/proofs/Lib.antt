@@ -1,5 +1,7 @@
 pub mod Text
+pub mod From
 pub mod State
+pub mod Lent
 pub mod Runs
 pub mod Blank
 pub mod Middle

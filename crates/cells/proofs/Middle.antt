@@ -7,6 +7,7 @@ use native.Mathlib.Omega.{arith}
 use lib.ListN.{getD, set}
 use Rattle.model.specs.Rules.{Tree}
 use Rattle.cells.specs.Text.{word, cell, frees, Run, snoc, len, low, row, width, under, marks, belows}
+use Rattle.cells.specs.declared.Below.{Below}
 use Rattle.cells.specs.States.{State}
 use Rattle.cells.proofs.Text.{row-app, row-length, marks-len}
 use Rattle.cells.proofs.State.{set-add, getD-add, st-word}
@@ -14,7 +15,7 @@ use Rattle.cells.proofs.State.{set-add, getD-add, st-word}
 -- the rest of a run, from a cell on: the ends and what is below each, highest end first
 pub data Rest : Type 0 where
   done : Rest
-  next : ℕ → ℕ → Rest → Rest
+  next : ℕ → Below → Rest → Rest
 
 unfoldable pub join : Run → Rest → Run
 join s done = s
@@ -43,17 +44,20 @@ row-join c s (next e d l) a k r h = rw h (row-join c (snoc s e d) l a (a + len s
 abbrev onward : Run → Rest → ℕ → List ℕ → List ℕ
 onward s l a r = tail (a + len s) (a + len s + 1) l r
 
-row-mid : (c : ℕ) (s : Run) (e d : ℕ) (l : Rest) (a : ℕ) (r : List ℕ) → row c (join (snoc s e d) l) a r ≡ row c s a [] ++ cell e (low c s a) d (onward s l a r)
+row-mid : (c : ℕ) (s : Run) (e : ℕ) (d : Below) (l : Rest) (a : ℕ) (r : List ℕ) → row c (join (snoc s e d) l) a r ≡ row c s a [] ++ cell e (low c s a) d (onward s l a r)
 unfolding row low len
 row-mid c s e d l a r = row-join c (snoc s e d) l a (a + len s + 1) r (omega arith) ∙ row-app c s a (cell e (low c s a) d (onward s l a r))
 
-row-get : (c : ℕ) (s : Run) (e d : ℕ) (l : Rest) (a : ℕ) (r : List ℕ) (j : ℕ) → getD (row c (join (snoc s e d) l) a r) (8 * len s + j) 0 ≡ getD (cell e (low c s a) d (onward s l a r)) j 0
+row-get : (c : ℕ) (s : Run) (e : ℕ) (d : Below) (l : Rest) (a : ℕ) (r : List ℕ) (j : ℕ) → getD (row c (join (snoc s e d) l) a r) (8 * len s + j) 0 ≡ getD (cell e (low c s a) d (onward s l a r)) j 0
 row-get c s e d l a r j = rw (row-mid c s e d l a r) (getD-add (row c s a []) _ j _ (omega (arith, row-length c s a [])))
 
-pub row-put : (c : ℕ) (s : Run) (e d v : ℕ) (l : Rest) (a : ℕ) (r : List ℕ) → set (row c (join (snoc s e d) l) a r) (8 * len s + 2) v ≡ row c (join (snoc s e v) l) a r
+pub row-put : (c : ℕ) (s : Run) (e : ℕ) (d v : Below) (l : Rest) (a : ℕ) (r : List ℕ) → set (set (row c (join (snoc s e d) l) a r) (8 * len s + 2) (v .down)) (8 * len s + 3) (v .side) ≡ row c (join (snoc s e v) l) a r
 row-put c s e d v l a r =
-    ap (λ k. set k (8 * len s + 2) v) (row-mid c s e d l a r)
-    ∙ set-add (row c s a []) (cell e (low c s a) d (onward s l a r)) 2 v (8 * len s + 2) (omega (arith, row-length c s a []))
+    let f = row c s a [] in
+    let k = cell e (low c s a) d (onward s l a r) in
+    ap (λ y. set (set y (8 * len s + 2) (v .down)) (8 * len s + 3) (v .side)) (row-mid c s e d l a r)
+    ∙ ap (λ y. set y (8 * len s + 3) (v .side)) (set-add f k 2 (v .down) (8 * len s + 2) (omega (arith, row-length c s a [])))
+    ∙ set-add f (set k 2 (v .down)) 3 (v .side) (8 * len s + 3) (omega (arith, row-length c s a []))
     ∙ sym (row-mid c s e v l a r)
 
 -- the run is p's and then l, what is below p stands from cell b on, and then come n free cells
@@ -65,7 +69,7 @@ pub mid-wide : (c a b : ℕ) (p : Tree ℕ) (l : Rest) → b ≡ a + (width p + 
 mid-wide c a b p l h = omega (arith, len-join (marks c p b) l, marks-len c p b)
 
 -- a word of the first cell behind p's
-pub run-word : {ws : List ℕ} {c x a : ℕ} {q : List ℕ} (p : Tree ℕ) (b e d : ℕ) (l : Rest) (r : List ℕ) → State ws c x a q (row c (join (snoc (marks c p b) e d) l) a r) → (k j : ℕ) → k ≡ a + width p
+pub run-word : {ws : List ℕ} {c x a : ℕ} {q : List ℕ} (p : Tree ℕ) (b e : ℕ) (d : Below) (l : Rest) (r : List ℕ) → State ws c x a q (row c (join (snoc (marks c p b) e d) l) a r) → (k j : ℕ) → k ≡ a + width p
     → word ws k j ≡ getD (cell e (low c (marks c p b) a) d (onward (marks c p b) l a r)) j 0
 run-word {ws} {c} {x} {a} p b e d l r s k j h =
     st-word s k j (8 * len (marks c p b) + j) (omega (arith, marks-len c p b)) ∙ row-get c (marks c p b) e d l a r j

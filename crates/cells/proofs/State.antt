@@ -8,7 +8,7 @@ use lib.ListN.{length, getD, set, length-set, length-append}
 use lib.Seq.{getD-append-add}
 use Rattle.model.specs.Rules.{Tree}
 use Rattle.cells.specs.Text.{at, word, Run, len, row, under, belows}
-use Rattle.cells.specs.States.{head, State}
+use Rattle.cells.specs.States.{firstFree, State}
 use Rattle.cells.proofs.Text.{row-app, row-length, both-app, belows-length}
 
 pub set-add : (p r : List ℕ) (i v n : ℕ) → n ≡ length p + i → set (p ++ r) n v ≡ p ++ set r i v
@@ -20,7 +20,7 @@ pub getD-add : (p r : List ℕ) (i n : ℕ) → n ≡ length p + i → getD (p +
 getD-add p r i n e = rw e (getD-append-add p r i 0)
 
 module _ {ws : List ℕ} {c x a : ℕ} {q r : List ℕ} (s : State ws c x a q r) where
-  pub st-head : head ws ≡ x
+  pub st-head : firstFree ws ≡ x
   st-head = ap (λ l. getD l 0 0) (s .is)
 
   pub st-length : 8 * a + length r ≡ 8 * c

@@ -9,7 +9,7 @@ use lib.ListN.{length}
 use Rattle.model.specs.Lists.{keep}
 use Rattle.model.specs.Rules.{covers, ends, Tree, names, stop, loc, chain, tree, cells}
 use Rattle.rows.specs.Rows.{fieldAt, fieldsAt, firstOf, treeAt}
-use Rattle.cells.specs.Text.{cell, frees, Run, nil, snoc, len, low, row, width, under, marks, belows, part}
+use Rattle.cells.specs.Text.{onlyDown, cell, frees, Run, nil, snoc, len, low, row, width, under, marks, belows, part}
 use Rattle.cells.specs.Planted.{Deep}
 
 pub row-app : (c : ℕ) (s : Run) (a : ℕ) (r : List ℕ) → row c s a r ≡ row c s a [] ++ r
@@ -68,7 +68,7 @@ unfolding frees
 frees-length k zero = refl
 frees-length k (suc n) = omega (arith, frees-length (k + 1) n)
 
-pub frees-cons : (k m n : ℕ) → m ≡ 1 + n → frees k m ≡ cell 0 (k + 1) 0 (frees (k + 1) n)
+pub frees-cons : (k m n : ℕ) → m ≡ 1 + n → frees k m ≡ cell 0 (k + 1) (onlyDown 0) (frees (k + 1) n)
 unfolding frees
 frees-cons k m n e = let h : m ≡ suc n = omega arith in rw h
 

@@ -1,9 +1,10 @@
--- The tree in cells: what the words of a store hold from the two links on, which are the last words of its front. Word 0 of this part is the first cell of the free chain, word 1 is the cell where a walk begins, and cell k is the words 2 + 8 k to 9 + 8 k: the end, the next cell of its chain, what is below it, and five zeros. "No cell" is c, the number of cells.
+-- The tree in cells: what the words of a store hold from the two links on, which are the last words of its front. Word 0 of this part is the first cell of the free chain, word 1 is the cell where a walk begins, and cell k is the words 2 + 8 k to 9 + 8 k: the end, the next cell of its chain, what is below it and beside that, and four zeros. "No cell" is c, the number of cells.
 -- Assumes nothing: these are definitions.
 use mathlib.Core.List.{List, [], _∷_}
 use Prim.Native.Nat.{ℕ, zero, suc, _+_, _-_, _*_}
 use lib.ListN.{getD}
 use Rattle.model.specs.Rules.{Tree, names, stop, loc, cells}
+use Rattle.cells.specs.declared.Below.{Below}
 
 -- where word f of cell k stands
 abbrev pub at : ℕ → ℕ → ℕ
@@ -13,19 +14,27 @@ at k f = 2 + 8 * k + f
 abbrev pub word : List ℕ → ℕ → ℕ → ℕ
 word ws k f = getD ws (at k f) 0
 
+-- what cell k says is below it
+abbrev pub belowAt : List ℕ → ℕ → Below
+belowAt ws k = record { down = word ws k 2; side = word ws k 3 }
+
+-- what is below a cell where nothing stands beside that
+abbrev pub onlyDown : ℕ → Below
+onlyDown d = record { down = d; side = 0 }
+
 -- a cell with an end, a next cell and what is below it; and then the words r
-abbrev pub cell : ℕ → ℕ → ℕ → List ℕ → List ℕ
-cell e n d r = e ∷ n ∷ d ∷ 0 ∷ 0 ∷ 0 ∷ 0 ∷ 0 ∷ r
+abbrev pub cell : ℕ → ℕ → Below → List ℕ → List ℕ
+cell e n b r = e ∷ n ∷ b .down ∷ b .side ∷ 0 ∷ 0 ∷ 0 ∷ 0 ∷ r
 
 -- n free cells from cell k on: each leads to the one behind it
 unfoldable pub frees : ℕ → ℕ → List ℕ
 frees k zero = []
-frees k (suc n) = cell 0 (k + 1) 0 (frees (k + 1) n)
+frees k (suc n) = cell 0 (k + 1) (onlyDown 0) (frees (k + 1) n)
 
 -- The ends of a chain's cells and what is below each, highest end first: `snoc s e d` has the end e, with d below it, behind the run s.
 pub data Run : Type 0 where
   nil : Run
-  snoc : Run → ℕ → ℕ → Run
+  snoc : Run → ℕ → Below → Run
 
 unfoldable pub len : Run → ℕ
 len nil = 0
@@ -52,11 +61,11 @@ under (names b) = 0
 under stop = 0
 under (loc e u t) = under t + (width u + under u)
 
--- where a walk of a tree that is laid from cell a on begins; where no field is left, the tree is what it names
-unfoldable pub first : ℕ → Tree ℕ → ℕ → ℕ
-first c (names b) a = b
-first c stop a = c
-first c (loc e u t) a = a + width t
+-- what a cell says is below it, where that is a tree that is laid from cell a on: the cell where a walk of it begins; where no field is left, what the tree names
+unfoldable pub first : ℕ → Tree ℕ → ℕ → Below
+first c (names b) a = onlyDown b
+first c stop a = onlyDown c
+first c (loc e u t) a = onlyDown (a + width t)
 
 -- the run of a chain, where what is below it is laid from cell b on: below the highest end first
 unfoldable pub marks : ℕ → Tree ℕ → ℕ → Run
@@ -72,9 +81,9 @@ belows c (loc e u t) b r =
     belows c t b (row c (marks c u (b + under t + width u)) (b + under t) (belows c u (b + under t + width u) r))
 
 -- the text of a tree that is laid from cell a on, and then r: "A chain's cells stand side by side, its highest end first, and then what is below each of them, in the same order"
-abbrev pub text : ℕ → Tree ℕ → ℕ → List ℕ → List ℕ
-text c t a r = row c (marks c t (a + width t)) a (belows c t (a + width t) r)
+abbrev pub treeText : ℕ → Tree ℕ → ℕ → List ℕ → List ℕ
+treeText c t a r = row c (marks c t (a + width t)) a (belows c t (a + width t) r)
 
 -- THE PART: the two links, the tree from cell 0 on, and then the free chain with all other cells
 unfoldable pub part : ℕ → Tree ℕ → List ℕ
-part c t = cells t ∷ first c t 0 ∷ text c t 0 (frees (cells t) (c - cells t))
+part c t = cells t ∷ first c t 0 .down ∷ treeText c t 0 (frees (cells t) (c - cells t))

@@ -1,13 +1,19 @@
-// The tree in the cells of a store. The slices of words that these functions are lent are the part of a store from its two links on: word 0 is the first cell of the free chain, word 1 is the cell where a walk begins, and cell k is the eight words from 2 + 8 k on. The number of cells c stands elsewhere and is passed beside the words; as a link it says "no cell".
+// The tree in the cells of a store, in its part from the two links on: word 0 of that is the first cell of the free chain, word 1 is the cell where a walk begins, and cell k is the eight words from 2 + 8 k on. The functions that build are lent the words from the rows on, and base, the word where the part begins: what stands before it are the rules, which stay. The others are lent the part alone. The number of cells c stands elsewhere and is passed beside the words; as a link it says "no cell".
 ghost use mathlib.Core.Path.{_≡_};
-ghost use mathlib.Core.List.{[], _∷_};
+ghost use mathlib.Core.List.{[], _∷_, _++_};
 ghost use Prim.Native.Nat.{_+_, _*_, _≤_, _<_, _-_};
-ghost use lib.ListN.{length, set};
-ghost use Rattle.model.specs.Rules.{stop, cells, ends as endsOf};
-ghost use Rattle.rows.specs.Rows.{fieldAt, treeAt};
-ghost use Rattle.cells.specs.Text.{at, word, part};
-ghost use Rattle.cells.specs.Planted.{Planted};
-ghost use Rattle.cells.specs.States.{head, wrote, zeros, Spare, RoomFor, Lays, SomeRows, Gives, Builds, SomeHeld, SomeLoc, Drops};
+ghost use lib.ListN.{length, set, take, drop};
+ghost use Rattle.model.specs.Rules.{stop, ends as endsOf};
+ghost use Rattle.rows.specs.Rows.{fieldAt, treeAt, firstOf};
+ghost use Rattle.cells.specs.Text.{at, word, belowAt, onlyDown, part};
+ghost use Rattle.cells.specs.Planted.{Planted, Plantable};
+ghost use Rattle.cells.specs.States.{firstFree, wrote, zeros, Spare, Lays, Hangs, Laid, Narrows, Buildable, Built, SomeRows, Gives, SomeHeld, SomeLoc, Drops};
+
+// What is below a cell, its words 2 and 3: the cell where a walk of the next field begins, or in the last field the word at which the row of the rule that the location names begins; and what stands beside that, which is nothing, 0.
+pub struct Below {
+    pub down: u32,
+    pub side: u32,
+}
 
 // Word f of cell k.
 fn word_of(words: &[u32], k: u32, f: usize) -> u32
@@ -18,29 +24,51 @@ fn word_of(words: &[u32], k: u32, f: usize) -> u32
 }
 
 // Writes the end, the next cell and what is below it into cell k.
-fn write_cell(words: &mut [u32], k: u32, end: u32, next: u32, down: u32)
-    requires { ⌜ at k 2 < length (now words) ⌝ }
-    ensures { λ _. ⌜ now (words .exit) ≡ wrote (now (words .entry)) k end next down ⌝ }
+fn write_cell(words: &mut [u32], k: u32, end: u32, next: u32, below: Below)
+    requires { ⌜ at k 3 < length (now words) ⌝ }
+    ensures { λ _. ⌜ now (words .exit) ≡ wrote (now (words .entry)) k end next below ⌝ }
 {
     let i = 2 + 8 * (k as usize);
     words[i] = end;
     words[i + 1] = next;
-    words[i + 2] = down;
+    words[i + 2] = below.down;
+    words[i + 3] = below.side;
 }
 
-// Writes what is below cell k.
-fn write_down(words: &mut [u32], k: u32, down: u32)
-    requires { ⌜ at k 2 < length (now words) ⌝ }
-    ensures { λ _. ⌜ now (words .exit) ≡ set (now (words .entry)) (at k 2) down ⌝ }
+// What is below cell k.
+fn below_of(words: &[u32], k: u32) -> Below
+    requires { ⌜ at k 3 < length (now words) ⌝ }
+    ensures { λ r. ⌜ r ≡ belowAt (now (words .entry)) k ⌝ }
 {
-    let i = 2 + 8 * (k as usize) + 2;
-    words[i] = down;
+    Below {
+        down: word_of(words, k, 2),
+        side: word_of(words, k, 3),
+    }
+}
+
+// Writes what is below cell k, where the part begins at base.
+fn write_below(words: &mut [u32], base: usize, k: u32, below: Below)
+    requires { ⌜ base + at k 3 < length (now words) ⌝ }
+    ensures { λ _. ⌜ Hangs base (now (words .entry)) (now (words .exit)) k below ⌝ }
+{
+    let i = base + (2 + 8 * (k as usize) + 2);
+    words[i] = below.down;
+    words[i + 1] = below.side;
+}
+
+// The end of cell k, where the part begins at base.
+fn end_of(words: &[u32], base: usize, k: u32) -> u32
+    requires { ⌜ base + at k 0 < length (now words) ⌝ }
+    ensures { λ r. ⌜ r ≡ word (drop base (now (words .entry))) k 0 ⌝ }
+{
+    let i = base + (2 + 8 * (k as usize));
+    words[i]
 }
 
 // Takes the first cell off the free chain.
 fn take_cell(words: &mut [u32]) -> u32
-    requires { ⌜ at (head (now words)) 1 < length (now words) ⌝ }
-    ensures { λ r. ⌜ (r ≡ head (now (words .entry))) × (now (words .exit) ≡ set (now (words .entry)) 0 (word (now (words .entry)) (head (now (words .entry))) 1)) ⌝ }
+    requires { ⌜ at (firstFree (now words)) 1 < length (now words) ⌝ }
+    ensures { λ r. ⌜ (r ≡ firstFree (now (words .entry))) × (now (words .exit) ≡ set (now (words .entry)) 0 (word (now (words .entry)) (firstFree (now (words .entry))) 1)) ⌝ }
 {
     let k = words[0];
     let next = word_of(words, k, 1);
@@ -50,11 +78,11 @@ fn take_cell(words: &mut [u32]) -> u32
 
 // Clears a cell and puts it in front of the free chain.
 fn give_cell(words: &mut [u32], k: u32)
-    requires { ⌜ at k 2 < length (now words) ⌝ }
-    ensures { λ _. ⌜ now (words .exit) ≡ set (wrote (now (words .entry)) k 0 (head (now (words .entry))) 0) 0 k ⌝ }
+    requires { ⌜ at k 3 < length (now words) ⌝ }
+    ensures { λ _. ⌜ now (words .exit) ≡ set (wrote (now (words .entry)) k 0 (firstFree (now (words .entry))) (onlyDown 0)) 0 k ⌝ }
 {
-    let head = words[0];
-    write_cell(words, k, 0, head, 0);
+    let next = words[0];
+    write_cell(words, k, 0, next, Below { down: 0, side: 0 });
     words[0] = k;
 }
 
@@ -85,87 +113,130 @@ pub fn clear(words: &mut [u32], c: u32)
 }
 
 // Takes a cell and makes a run of one end of it, with nothing below.
-fn build_one(words: &mut [u32], c: u32, end: u32) -> u32
-    requires { ⌜ Spare (now words) c 1 ⌝ }
-    ensures { λ r. ⌜ Lays (now (words .entry)) (now (words .exit)) r c (end ∷ []) × (word (now (words .exit)) r 0 ≡ end) ⌝ }
+fn build_one(words: &mut [u32], base: usize, c: u32, end: u32) -> u32
+    requires { ⌜ (base ≤ length (now words)) × Spare (drop base (now words)) c 1 ⌝ }
+    ensures { λ r. ⌜ Laid base (now (words .entry)) (now (words .exit)) r c (end ∷ []) × (word (drop base (now (words .exit))) r 0 ≡ end) ⌝ }
 {
-    let k = take_cell(words);
-    write_cell(words, k, end, c, 0);
+    let part = &mut words[base..];
+    let k = take_cell(part);
+    write_cell(part, k, end, c, Below { down: 0, side: 0 });
     k
 }
 
-// Takes a cell for each end of the rules of the set in a field, from the highest down, and makes a run of them with nothing below; answers the cell of the lowest end, or c where there is no end. The ends are written beside, over what stood there.
-fn build_run(
-    words: &mut [u32],
-    c: u32,
-    rules: &[u32],
-    set: &[u32],
-    field: u32,
-    ends: &mut [u32],
-) -> u32
-    requires { ⌜ Spare (now words) c (length (endsOf (fieldAt (now rules) field) (now set))) × (length (now set) ≤ 65) × (length (now ends) ≡ 130) ⌝ }
-    ensures { λ r. ⌜ Lays (now (words .entry)) (now (words .exit)) r c (endsOf (fieldAt (now (rules .entry)) field) (now (set .entry))) ⌝ }
+// Takes a cell for each of the ends, which rise, from the highest down, and makes a run of them with nothing below; answers the cell of the lowest end, or c where there is no end.
+fn lay_run(words: &mut [u32], c: u32, ends: &[u32]) -> u32
+    requires { ⌜ Spare (now words) c (length (now ends)) ⌝ }
+    ensures { λ r. ⌜ Lays (now (words .entry)) (now (words .exit)) r c (now (ends .entry)) ⌝ }
 {
-    let mut i = rows::ends_of(rules, set, field, ends);
+    let mut i = ends.len();
     let mut lowest = c;
     while 0 < i {
         i -= 1;
         let k = take_cell(words);
-        write_cell(words, k, ends[i], lowest, 0);
+        write_cell(words, k, ends[i], lowest, Below { down: 0, side: 0 });
         lowest = k;
     }
     lowest
 }
 
-// Builds the tree of the rules of the set over as many fields as are left, from a field on, in the first free cells. Where all rules have one range from 0, the chain is one cell, with the same rules below it. Else it is the run of the field's ends, and then for each of its cells the tree of the rules that cover its end. Answers where a walk of the tree begins. The ends of each run in turn are written beside.
+// Lays the run of the ends of the rules of the set in a field. The ends are written beside, over what stood there.
+fn build_run(
+    words: &mut [u32],
+    base: usize,
+    c: u32,
+    set: &[u16],
+    field: u32,
+    ends: &mut [u32],
+) -> u32
+    requires { ⌜ (base ≤ length (now words)) × Spare (drop base (now words)) c (length (endsOf (fieldAt (take base (now words)) field) (now set))) × (2 * length (now set) ≤ length (now ends)) ⌝ }
+    ensures { λ r. ⌜ Laid base (now (words .entry)) (now (words .exit)) r c (endsOf (fieldAt (take base (now (words .entry))) field) (now (set .entry))) ⌝ }
+{
+    let rules = &words[..base];
+    let n = rows::ends_of(rules, &rules[..0], set, field, ends);
+    lay_run(&mut words[base..], c, &ends[..n])
+}
+
+// Writes behind the set, which is the first n numbers of sets, the places of those of its rules whose range in a field holds v, and says how many they are.
+fn narrowed(words: &[u32], base: usize, sets: &mut [u16], n: usize, field: u32, v: u32) -> usize
+    requires { ⌜ (base ≤ length (now words)) × (n + n ≤ length (now sets)) ⌝ }
+    ensures { λ r. ⌜ Narrows (take base (now (words .entry))) (now (sets .entry)) (now (sets .exit)) n r field v ⌝ }
+{
+    let rules = &words[..base];
+    rows::narrow(rules, &rules[..0], sets, n, field, v)
+}
+
+// What stands where no field is left: where the row of the first rule of the set begins.
+fn build_leaf(set: &[u16]) -> Below
+    ensures { λ r. ⌜ r ≡ onlyDown (firstOf (now (set .entry))) ⌝ }
+{
+    Below {
+        down: rows::first_place(set),
+        side: 0,
+    }
+}
+
+// Builds the tree of the rules of the set, which is the first n numbers of sets, over as many fields as are left, from a field on, in the first free cells. Where all rules have one range from 0, the chain is one cell, with the same rules below it. Else it is the run of the field's ends, and then for each of its cells the tree of the rules that cover its end, whose set is written behind this one. Answers what a cell above it says. The ends of each run in turn are written beside.
 fn build_chain(
     words: &mut [u32],
+    base: usize,
     c: u32,
-    rules: &[u32],
-    set: &[u32],
+    sets: &mut [u16],
+    n: usize,
     field: u32,
     left: u32,
     ends: &mut [u32],
-) -> u32
-    requires { ⌜ RoomFor (now words) c (treeAt (now rules) field left (now set)) × (length (now set) ≤ 65) × (field + left ≤ 64) × (length (now ends) ≡ 130) ⌝ }
-    ensures { λ r. ⌜ Builds (now (words .entry)) (now (words .exit)) r c (treeAt (now (rules .entry)) field left (now (set .entry))) ⌝ }
+) -> Below
+    requires { ⌜ Buildable (now words) base c (now sets) n field left (now ends) ⌝ }
+    ensures { λ r. ⌜ Built base (now (words .entry)) (now (words .exit)) r c (treeAt (take base (now (words .entry))) field left (take n (now (sets .entry)))) ⌝ }
 {
+    let set = &sets[..n];
     if left == 0 {
-        return rows::first_place(set);
+        return build_leaf(set);
     }
-    let high = rows::high(rules, rows::first_place(set), field);
-    if rows::flat(rules, set, field, high) {
-        let one = build_one(words, c, high);
+    let rules = &words[..base];
+    let none = &rules[..0];
+    let high = rows::high(rules, none, rows::first_place(set), field);
+    if rows::flat(rules, none, set, field, high) {
+        let one = build_one(words, base, c, high);
         if left == 1 {
-            write_down(words, one, rows::first_place(set));
-            return one;
+            write_below(words, base, one, build_leaf(set));
+            return Below { down: one, side: 0 };
         }
-        let below = build_chain(words, c, rules, set, field + 1, left - 1, ends);
-        write_down(words, one, below);
-        return one;
+        let below = build_chain(words, base, c, sets, n, field + 1, left - 1, ends);
+        write_below(words, base, one, below);
+        return Below { down: one, side: 0 };
     }
-    let mut k = words[0];
-    let lowest = build_run(words, c, rules, set, field, ends);
-    let past = words[0];
-    let mut under = [0u32; 65];
+    let mut k = words[base];
+    let lowest = build_run(words, base, c, set, field, ends);
+    let past = words[base];
     while k < past {
-        let end = word_of(words, k, 0);
-        let n = rows::narrow(rules, set, field, end, &mut under);
-        let down = build_chain(words, c, rules, &under[..n], field + 1, left - 1, ends);
-        write_down(words, k, down);
+        let end = end_of(words, base, k);
+        let m = narrowed(words, base, sets, n, field, end);
+        let below = build_chain(words, base, c, &mut sets[n..], m, field + 1, left - 1, ends);
+        write_below(words, base, k, below);
         k += 1;
     }
-    lowest
+    Below {
+        down: lowest,
+        side: 0,
+    }
 }
 
-// Builds the tree of the rules of the set in the part of a store with no tree, which has room for it.
-pub fn plant(words: &mut [u32], c: u32, rules: &[u32], set: &[u32], fields: u32)
-    requires { ⌜ (now words ≡ part c stop) × (c ≤ 65536) × (cells (treeAt (now rules) 0 fields (now set)) ≤ c) × (length (now set) ≤ 65) × (fields ≤ 62) ⌝ }
-    ensures { λ _. ⌜ now (words .exit) ≡ part c (treeAt (now (rules .entry)) 0 fields (now (set .entry))) ⌝ }
+// Builds the tree of the rules of the set, which is the first n numbers of sets, in the part of a store with no tree, which has room for it. The words before base are the rules, and stay; the other numbers of sets, and ends, are scratch.
+pub fn plant(
+    words: &mut [u32],
+    base: usize,
+    c: u32,
+    sets: &mut [u16],
+    n: usize,
+    fields: u32,
+    ends: &mut [u32],
+)
+    requires { ⌜ Plantable (now words) base c (now sets) n fields (now ends) ⌝ }
+    ensures { λ _. ⌜ now (words .exit) ≡ take base (now (words .entry)) ++ part c (treeAt (take base (now (words .entry))) 0 fields (take n (now (sets .entry)))) ⌝ }
 {
-    let mut ends = [0u32; 130];
-    let first = build_chain(words, c, rules, set, 0, fields, &mut ends);
-    words[1] = first;
+    let first = build_chain(words, base, c, sets, n, 0, fields, ends);
+    words[base + 1] = first.down;
 }
 
 // Gives the cells of a run back, its lowest end first, which is at the cell first.
@@ -181,14 +252,12 @@ fn give_run(words: &mut [u32], c: u32, first: u32)
     }
 }
 
-// Frees the chain whose lowest end is at the cell first, with as many fields left: first all that is below each of its locations, then its own cells. It and free_location call each other, and the number of fields left falls.
-fn free_chain(words: &mut [u32], c: u32, first: u32, fields: u32)
-    requires { ⌜ SomeHeld (now words) fields first c ⌝ }
-    ensures { λ _. ⌜ Drops (now (words .entry)) (now (words .exit)) fields first c ⌝ }
+// Frees the chain that is below a cell, with as many fields left, its own among them: first all that is below each of its locations, then its own cells. It and free_location call each other, and the number of fields left falls.
+fn free_chain(words: &mut [u32], c: u32, chain: Below, fields: u32)
+    requires { ⌜ (0 < fields) × SomeHeld (now words) fields chain c ⌝ }
+    ensures { λ _. ⌜ Drops (now (words .entry)) (now (words .exit)) fields chain c ⌝ }
 {
-    if fields == 0 {
-        return;
-    }
+    let first = chain.down;
     let mut k = first;
     while k != c {
         free_location(words, c, k, fields);
@@ -200,13 +269,13 @@ fn free_chain(words: &mut [u32], c: u32, first: u32, fields: u32)
 // Frees all that is below the location at cell k. In the last field that is nothing.
 fn free_location(words: &mut [u32], c: u32, k: u32, fields: u32)
     requires { ⌜ SomeLoc (now words) fields k c ⌝ }
-    ensures { λ _. ⌜ Drops (now (words .entry)) (now (words .exit)) (fields - 1) (word (now (words .entry)) k 2) c ⌝ }
+    ensures { λ _. ⌜ Drops (now (words .entry)) (now (words .exit)) (fields - 1) (belowAt (now (words .entry)) k) c ⌝ }
 {
     if fields == 1 {
         return;
     }
-    let down = word_of(words, k, 2);
-    free_chain(words, c, down, fields - 1);
+    let below = below_of(words, k);
+    free_chain(words, c, below, fields - 1);
 }
 
 // Drops the tree of a part over as many fields: all its cells are on the free chain then.
@@ -214,7 +283,10 @@ pub fn drop(words: &mut [u32], c: u32, fields: u32)
     requires { ⌜ Planted (now words) c fields ⌝ }
     ensures { λ _. ⌜ now (words .exit) ≡ part c stop ⌝ }
 {
-    let first = words[1];
+    let first = Below {
+        down: words[1],
+        side: 0,
+    };
     free_chain(words, c, first, fields);
     words[1] = c;
 }

@@ -7,6 +7,7 @@ use native.Mathlib.Omega.{arith}
 use lib.Dec.{eqb}
 use borrow.Author.Tests.{eq-eqb, ne-eqb, not-true, not-false}
 use Rattle.model.proofs.Tests.{never}
+use Rattle.cells.specs.declared.Below.{Below}
 use Rattle.compare.specs.declared.Told.the-variants.{Same, Differs}
 use Rattle.compare.specs.Compare.{answer}
 
@@ -25,14 +26,14 @@ pub was-yes : {a b : Bool} → a ≡ b → not a ≡ false → b ≡ true
 was-yes {a} h t = sym h ∙ not-false a t
 
 -- the answer of a comparison, and its test
-pub answer-no : (b : Bool) (p l : ℕ) → (b ≡ true → ⊥) → answer b p l ≡ Differs
+pub answer-no : (b : Bool) (p : ℕ) (l : Below) → (b ≡ true → ⊥) → answer b p l ≡ Differs
 answer-no true p l h = absurd (h refl)
 answer-no false p l h = refl
 
-pub answer-differs : (b : Bool) (p l : ℕ) → answer b p l ≡ Differs → b ≡ true → ⊥
+pub answer-differs : (b : Bool) (p : ℕ) (l : Below) → answer b p l ≡ Differs → b ≡ true → ⊥
 answer-differs true p l d h = let z : _≡_ {A = ℕ} 0 1 = cc in omega arith
 answer-differs false p l d h = never (sym h)
 
-pub answer-same : (b : Bool) (p l : ℕ) {x y : ℕ} → answer b p l ≡ Same x y → (b ≡ true) × (x ≡ p) × (y ≡ l)
+pub answer-same : (b : Bool) (p : ℕ) (l : Below) {x : ℕ} {y : Below} → answer b p l ≡ Same x y → (b ≡ true) × (x ≡ p) × (y ≡ l)
 answer-same true p l h = (refl, cc, cc)
 answer-same false p l h = absurd (let z : _≡_ {A = ℕ} 0 1 = cc in omega arith)

@@ -8,16 +8,17 @@ use native.Mathlib.Nat.{add-zero}
 use native.Mathlib.Omega.{arith}
 use native.Mathlib.Numerals.{add-one}
 use lib.Dec.{ltb}
-use lib.ListN.{length, getD, drop, drop-of-length-le, length-drop}
+use lib.ListN.{length, getD, take, drop, drop-of-length-le, length-drop}
 use lib.Seq.{drop-length, drop-cons}
-use borrow.Author.Tests.{ltb-true, lt-ltb, eqb-true}
+use borrow.Author.Tests.{ltb-true, lt-ltb, le-ltb, eqb-true}
 use Rattle.model.specs.Lists.{keep}
 use Rattle.model.specs.Rules.{covers, ends, Tree, names, chain, cells}
 use Rattle.model.proofs.Tests.{never, and-left, and-right, and-both, same-test}
 use Rattle.rows.specs.Rows.{fieldAt, firstOf, treeAt, underAt, Flat}
 use Rattle.rows.proofs.Sets.{tree-none, tree-step}
 use Rattle.rows.proofs.Insert.{back}
-use Rattle.cells.specs.Text.{word, cell, frees, low, row, width, under, first, marks, belows, text, part}
+use Rattle.cells.specs.Text.{word, onlyDown, cell, frees, low, row, width, under, first, marks, belows, treeText, part}
+use Rattle.cells.specs.declared.Below.{Below}
 use Rattle.compare.specs.declared.Told.{Told}
 use Rattle.compare.specs.declared.Told.the-variants.{Same, Differs}
 use Rattle.model.specs.Lists.{same}
@@ -25,6 +26,9 @@ use Rattle.compare.specs.Compare.{Room, from, told, headIs, restIs, befo
 use Rattle.model.proofs.UpTo.{same-true, true-same, same-false}
 use Rattle.compare.proofs.Answers.{was-no, was-yes, answer-no, answer-differs, answer-same}
 use Rattle.cells.proofs.Text.{marks-len, cells-sum}
+use Rattle.cells.specs.States.{Narrows}
+use Rattle.cells.proofs.Lent.{lent}
+use borrow.Rule.Slice.PartMut.{midOf, putMid, take-put}
 use Rattle.compare.proofs.Text.{Cell, cell-rest, cell-here, cell-head, cell-others, cell-inside, cell-of, Held, Parts, text-parts, text-rest, parts-held, told-same, told-differs, told-not, told-held, told-inside}
 
 -- THE RUN
@@ -46,11 +50,20 @@ module _ (ws : List ℕ) (c k : ℕ) where
 
   run-not : (es : List ℕ) → toldRun ws c k es ≡ Differs → headsAre ws c k es ≡ true → ⊥
   unfolding toldRun
-  run-not es d = answer-differs (headsAre ws c k es) (k + length es) (before c k es) d
+  run-not es d = answer-differs (headsAre ws c k es) (k + length es) (onlyDown (before c k es)) d
 
-  run-told : (es : List ℕ) {p l : ℕ} → toldRun ws c k es ≡ Same p l → (headsAre ws c k es ≡ true) × (p ≡ k + length es) × (l ≡ before c k es)
+  run-told : (es : List ℕ) {p : ℕ} {l : Below} → toldRun ws c k es ≡ Same p l → (headsAre ws c k es ≡ true) × (p ≡ k + length es) × (l ≡ onlyDown (before c k es))
   unfolding toldRun
-  run-told es h = answer-same (headsAre ws c k es) (k + length es) (before c k es) h
+  run-told es h = answer-same (headsAre ws c k es) (k + length es) (onlyDown (before c k es)) h
+
+  -- a run of one end is a cell
+  pub one-full : (e : ℕ) → c ≤ k → false ≡ headsAre ws c k (e ∷ [])
+  unfolding headsAre before
+  one-full e l = let z : c ≤ k + 0 = omega arith in rw (le-ltb (k + 0) c z)
+
+  pub one-head : (e : ℕ) {x : Bool} → k < c → x ≡ headIs ws k e c → x ≡ headsAre ws c k (e ∷ [])
+  unfolding headsAre before
+  one-head e l h = rw (add-zero, lt-ltb k c l) h
 
 -- where the comparison of the run of the ends es stands: those from the i-th on stand, and end before the cell next
 pub record Going (ws : List ℕ) (c : ℕ) (es : List ℕ) (k next head i : ℕ) : Type 0 where
@@ -67,7 +80,7 @@ going-start ws c es k i l q =
     record { heads = rw z; past = rw z (omega arith); low = rw z; inside = l; most = omega arith }
 
 module _ {ws : List ℕ} {c : ℕ} {es : List ℕ} {k next head i : ℕ} (o : Going ws c es k next head i) where
-  pub going-end : i ≤ 0 → Same next head ≡ toldRun ws c k es
+  pub going-end : i ≤ 0 → Same next (onlyDown head) ≡ toldRun ws c k es
   unfolding toldRun
   going-end l =
       let z : i ≡ 0 = omega arith in
@@ -110,10 +123,10 @@ module _ (g : ℕ → Tree ℕ) where
   low-chain c k b [] = refl
   low-chain c k b (e ∷ es) = ap (λ n. k + n) (marks-len c (chain g es) b ∙ width-chain es)
 
-  first-chain : (c k : ℕ) (es : List ℕ) → first c (chain g es) k ≡ before c k es
+  first-chain : (c k : ℕ) (es : List ℕ) → first c (chain g es) k ≡ onlyDown (before c k es)
   unfolding first before
   first-chain c k [] = refl
-  first-chain c k (e ∷ es) = ap (λ n. k + n) (width-chain es)
+  first-chain c k (e ∷ es) = ap (λ n. onlyDown (k + n)) (width-chain es)
 
   parts-drop : (ws : List ℕ) (c k b n : ℕ) (es : List ℕ) → Parts ws c k b (chain g es) → Parts ws c k b (chain g (drop n es))
   parts-drop ws c k b zero es p = p
@@ -133,10 +146,10 @@ module _ (g : ℕ → Tree ℕ) where
   whole ws c k es h = rw (width-chain es) at (text-parts ws c (chain g es) k _ h)
 
 -- where the comparison of what is below a run stands: cell i is next, and what is below it begins at cell b
-pub record Below (ws : List ℕ) (c : ℕ) (g : ℕ → Tree ℕ) (es : List ℕ) (k low end i b : ℕ) : Type 0 where
+pub record Hanging (ws : List ℕ) (c : ℕ) (g : ℕ → Tree ℕ) (es : List ℕ) (k : ℕ) (low : Below) (end i b : ℕ) : Type 0 where
   pub heads : headsAre ws c k es ≡ true
   pub end-is : end ≡ k + length es
-  pub low-is : low ≡ before c k es
+  pub low-is : low ≡ onlyDown (before c k es)
   pub end-in : end ≤ c
   pub from-k : k ≤ i
   pub to-end : i ≤ end
@@ -144,7 +157,7 @@ pub record Below (ws : List ℕ) (c : ℕ) (g : ℕ → Tree ℕ) (es : List ℕ
   pub inside : b ≤ c
   pub parts : Parts ws c k end (chain g (drop (end - i) es))
 
-pub below-start : (ws : List ℕ) (c : ℕ) (g : ℕ → Tree ℕ) (es : List ℕ) (k low end : ℕ) → k ≤ c → toldRun ws c k es ≡ Same end low → Below ws c g es k low end k end
+pub below-start : (ws : List ℕ) (c : ℕ) (g : ℕ → Tree ℕ) (es : List ℕ) (k : ℕ) (low : Below) (end : ℕ) → k ≤ c → toldRun ws c k es ≡ Same end low → Hanging ws c g es k low end k end
 unfolding under
 below-start ws c g es k low end l h =
     let v = run-told ws c k es h in
@@ -165,7 +178,7 @@ below-start ws c g es k low end l h =
 pub below-none : (ws : List ℕ) (c : ℕ) (g : ℕ → Tree ℕ) (es : List ℕ) (k : ℕ) → Room ws c → toldRun ws c k es ≡ Differs → told ws c k (chain g es) ≡ Differs
 below-none ws c g es k r d = told-differs ws c (chain g es) k (λ h. run-not ws c k es d (parts-heads g ws c k (k + length es) es r (whole g ws c k es h)))
 
-module _ {ws : List ℕ} {c : ℕ} {g : ℕ → Tree ℕ} {es : List ℕ} {k low end i b : ℕ} (o : Below ws c g es k low end i b) where
+module _ {ws : List ℕ} {c : ℕ} {g : ℕ → Tree ℕ} {es : List ℕ} {k : ℕ} {low : Below} {end i b : ℕ} (o : Hanging ws c g es k low end i b) where
   pub below-end : end ≤ i → told ws c k (chain g es) ≡ Same b low
   below-end l =
       let z : end - i ≡ 0 = omega arith in
@@ -215,13 +228,13 @@ module _ {ws : List ℕ} {c : ℕ} {g : ℕ → Tree ℕ} {es : List ℕ} {k low
     pub below-not : told ws c b (g e) ≡ Differs → told ws c k (chain g es) ≡ Differs
     below-not d = told-differs ws c (chain g es) k (λ h. told-not ws c (g e) b d _ (expected-here h .1))
 
-    module _ (past down : ℕ) (u : told ws c b (g e) ≡ Same past down) where
+    module _ (past : ℕ) (down : Below) (u : told ws c b (g e) ≡ Same past down) where
       pub below-no : restIs ws i down ≡ false → told ws c k (chain g es) ≡ Differs
       below-no d = told-differs ws c (chain g es) k (λ h.
           let v = told-held ws c (g e) b past down u in
           never (sym (rw (v .2) (cell-others ws i e (before c k post) (first c (g e) b) (expected-here h .0))) ∙ d))
 
-      pub below-on : restIs ws i down ≡ true → Below ws c g es k low end (i + 1) past
+      pub below-on : restIs ws i down ≡ true → Hanging ws c g es k low end (i + 1) past
       unfolding under
       below-on d =
           let v = told-held ws c (g e) b past down u in
@@ -245,85 +258,124 @@ module _ {ws : List ℕ} {c : ℕ} {g : ℕ → Tree ℕ} {es : List ℕ} {k low
           }
 
 -- the same of the tree at places
-pub record Compared (ws : List ℕ) (c : ℕ) (rules ps : List ℕ) (f n k low end i b : ℕ) : Type 0 where
-  pub below : Below ws c (underAt rules f n ps) (ends (fieldAt rules f) ps) k low end i b
+pub record Compared (ws : List ℕ) (c : ℕ) (rules ps : List ℕ) (f n k : ℕ) (low : Below) (end i b : ℕ) : Type 0 where
+  pub hanging : Hanging ws c (underAt rules f n ps) (ends (fieldAt rules f) ps) k low end i b
 
 module _ (ws : List ℕ) (c : ℕ) (rules ps : List ℕ) (f n k : ℕ) where
-  pub compared-none : (x : ℕ) → n ≡ 0 → x ≡ firstOf ps → Same k x ≡ told ws c k (treeAt rules f n ps)
+  pub compared-none : {a : Told} → n ≡ 0 → a ≡ Same k (onlyDown (firstOf ps)) → a ≡ told ws c k (treeAt rules f n ps)
   unfolding marks row belows width first
-  compared-none x z q =
+  compared-none z q =
       let y : k + 0 ≡ k = omega arith in
       let h = told-same ws c (names (firstOf ps)) k (rw y) in
-      rw (tree-none rules f n ps z, q) (sym (rw y at h))
+      q ∙ rw (tree-none rules f n ps z) (sym (rw y at h))
 
   module _ (nz : n ≡ 0 → ⊥) where
     pub compared-run : {a : Told} → Room ws c → a ≡ toldRun ws c k (ends (fieldAt rules f) ps) → a ≡ Differs → Differs ≡ told ws c k (treeAt rules f n ps)
     compared-run r h d = rw (tree-step rules f n ps nz) (sym (below-none ws c (underAt rules f n ps) _ k r (sym h ∙ d)))
 
-    pub compared-start : {a : Told} {low end : ℕ} → k ≤ c → a ≡ toldRun ws c k (ends (fieldAt rules f) ps) → a ≡ Same end low → Compared ws c rules ps f n k low end k end
-    compared-start l h d = record { below = below-start ws c (underAt rules f n ps) _ k _ _ l (sym h ∙ d) }
+    pub compared-start : {a : Told} {low : Below} {end : ℕ} → k ≤ c → a ≡ toldRun ws c k (ends (fieldAt rules f) ps) → a ≡ Same end low → Compared ws c rules ps f n k low end k end
+    compared-start l h d = record { hanging = below-start ws c (underAt rules f n ps) _ k _ _ l (sym h ∙ d) }
 
-module _ {ws : List ℕ} {c : ℕ} {rules ps : List ℕ} {f n k low end i b : ℕ} (nz : n ≡ 0 → ⊥) (o : Compared ws c rules ps f n k low end i b) where
+module _ {ws : List ℕ} {c : ℕ} {rules ps : List ℕ} {f n k : ℕ} {low : Below} {end i b : ℕ} (nz : n ≡ 0 → ⊥) (o : Compared ws c rules ps f n k low end i b) where
   pub compared-end : end ≤ i → Same b low ≡ told ws c k (treeAt rules f n ps)
-  compared-end l = rw (tree-step rules f n ps nz) (sym (below-end (o .below) l))
+  compared-end l = rw (tree-step rules f n ps nz) (sym (below-end (o .hanging) l))
 
   module _ {places : List ℕ} {a : Told} (r : Room ws c) (l : i < end) (q : places ≡ keep (covers (fieldAt rules f) (getD ws (2 + 8 * i) 0)) ps) (h : a ≡ told ws c b (treeAt rules (f + 1) (n - 1) places)) where
     pub compared-not : a ≡ Differs → Differs ≡ told ws c k (treeAt rules f n ps)
     unfolding underAt
-    compared-not d = rw (tree-step rules f n ps nz) (sym (below-not (o .below) r l (rw q at (sym h ∙ d))))
+    compared-not d = rw (tree-step rules f n ps nz) (sym (below-not (o .hanging) r l (rw q at (sym h ∙ d))))
 
-    module _ {past down : ℕ} {x : Bool} (u : a ≡ Same past down) (g : x ≡ restIs ws i down) where
+    module _ {past : ℕ} {down : Below} {x : Bool} (u : a ≡ Same past down) (g : x ≡ restIs ws i down) where
       pub compared-no : not x ≡ true → Differs ≡ told ws c k (treeAt rules f n ps)
       unfolding underAt
-      compared-no d = rw (tree-step rules f n ps nz) (sym (below-no (o .below) r l past down (rw q at (sym h ∙ u)) (was-no g d)))
+      compared-no d = rw (tree-step rules f n ps nz) (sym (below-no (o .hanging) r l past down (rw q at (sym h ∙ u)) (was-no g d)))
 
       pub compared-on : not x ≡ false → Compared ws c rules ps f n k low end (i + 1) past
       unfolding underAt
-      compared-on d = record { below = below-on (o .below) r l past down (rw q at (sym h ∙ u)) (was-yes g d) }
+      compared-on d = record { hanging = below-on (o .hanging) r l past down (rw q at (sym h ∙ u)) (was-yes g d) }
 
 -- in the last field nothing stands below a cell, and it names the first place
-module _ {ws : List ℕ} {c : ℕ} {rules ps : List ℕ} {f k low end i down : ℕ} (o : Compared ws c rules ps f 1 k low end i end) (r : Room ws c) (l : i < end)
-    (d : down ≡ firstOf (keep (covers (fieldAt rules f) (getD ws (2 + 8 * i) 0)) ps)) {x : Bool} (g : x ≡ restIs ws i down) where
-  below-last : Same end down ≡ told ws c end (treeAt rules (f + 1) (1 - 1) (keep (covers (fieldAt rules f) (getD ws (2 + 8 * i) 0)) ps))
-  below-last = compared-none ws c rules _ (f + 1) (1 - 1) end down refl d
+module _ {ws : List ℕ} {c : ℕ} {rules ps : List ℕ} {f k : ℕ} {low : Below} {end i e named : ℕ} (o : Compared ws c rules ps f 1 k low end i end) (r : Room ws c) (l : i < end)
+    (w : e ≡ getD ws (2 + 8 * i) 0) (d : named ≡ firstOf (keep (covers (fieldAt rules f) e) ps)) {x : Bool} (g : x ≡ restIs ws i (onlyDown named)) where
+  below-last : Same end (onlyDown named) ≡ told ws c end (treeAt rules (f + 1) (1 - 1) (keep (covers (fieldAt rules f) (getD ws (2 + 8 * i) 0)) ps))
+  below-last = compared-none ws c rules _ (f + 1) (1 - 1) end refl (ap (λ p. Same end (onlyDown p)) (rw w at d))
 
   pub last-no : not x ≡ true → Differs ≡ told ws c k (treeAt rules f 1 ps)
-  last-no e = compared-no (λ z. absurd (omega arith)) o r l refl below-last refl g e
+  last-no v = compared-no (λ z. absurd (omega arith)) o r l refl below-last refl g v
 
   pub last-on : not x ≡ false → Compared ws c rules ps f 1 k low end (i + 1) end
-  last-on e = compared-on (λ z. absurd (omega arith)) o r l refl below-last refl g e
+  last-on v = compared-on (λ z. absurd (omega arith)) o r l refl below-last refl g v
+
+-- where the loop of compare_chain stands, over sets and ends that stood at its start: the set stays
+pub record Comparing (ws : List ℕ) (c : ℕ) (rules sets₀ sets ends₀ ends' : List ℕ) (n f d k : ℕ) (low : Below) (end i b : ℕ) : Type 0 where
+  pub compared : Compared ws c rules (take n sets₀) f d k low end i b
+  pub set-kept : take n sets ≡ take n sets₀
+  pub sets-long : length sets ≡ length sets₀
+  pub ends-long : length ends' ≡ length ends₀
+
+-- a turn: m places cover the end of cell i, and the tree of their rules is below it
+pub record Turn (ws : List ℕ) (c : ℕ) (rules sets₀ sets sets' ends₀ ends' : List ℕ) (n m f d k : ℕ) (low : Below) (end i b : ℕ) : Type 0 where
+  pub some : d ≡ 0 → ⊥
+  pub so-far : Comparing ws c rules sets₀ sets ends₀ ends' n f d k low end i b
+  pub e : ℕ
+  pub is-end : e ≡ getD ws (2 + 8 * i) 0
+  pub narrows : Narrows rules sets sets' n m f e
+  pub long : length sets' ≡ length sets
+  pub fits : n ≤ length sets
+  pub room : Room ws c
+  pub inside : i < end
+
+module _ {ws : List ℕ} {c : ℕ} {rules sets₀ sets sets' ends₀ ends' : List ℕ} {n m f d k : ℕ} {low : Below} {end i b : ℕ} (o : Turn ws c rules sets₀ sets sets' ends₀ ends' n m f d k low end i b)
+    {a : Told} (h : a ≡ told ws c b (treeAt rules (f + 1) (d - 1) (take m (midOf n (length sets' - n) sets')))) where
+  next-places : take m (midOf n (length sets' - n) sets') ≡ keep (covers (fieldAt rules f) (getD ws (2 + 8 * i) 0)) (take n sets₀)
+  next-places = rw (lent n sets' (omega (arith, o .long, o .fits))) (rw (o .is-end, o .so-far .set-kept) at (o .narrows .next))
+
+  pub turn-not : a ≡ Differs → Differs ≡ told ws c k (treeAt rules f d (take n sets₀))
+  turn-not z = compared-not (o .some) (o .so-far .compared) (o .room) (o .inside) next-places h z
+
+  module _ {past : ℕ} {down : Below} {x : Bool} (u : a ≡ Same past down) (y : x ≡ restIs ws i down) where
+    pub turn-no : not x ≡ true → Differs ≡ told ws c k (treeAt rules f d (take n sets₀))
+    turn-no z = compared-no (o .some) (o .so-far .compared) (o .room) (o .inside) next-places h u y z
+
+    pub turn-on : not x ≡ false → (ys : List ℕ) {ends2 : List ℕ} → length (putMid n (length sets' - n) sets' ys) ≡ length sets' → length ends2 ≡ length ends'
+        → Comparing ws c rules sets₀ (putMid n (length sets' - n) sets' ys) ends₀ ends2 n f d k low end (i + 1) past
+    turn-on z ys l1 l2 = record {
+      compared = compared-on (o .some) (o .so-far .compared) (o .room) (o .inside) next-places h u y z;
+      set-kept = take-put n (length sets' - n) sets' ys (omega (arith, o .long, o .fits)) ∙ o .narrows .kept ∙ o .so-far .set-kept;
+      sets-long = l1 ∙ o .long ∙ o .so-far .sets-long;
+      ends-long = l2 ∙ o .so-far .ends-long;
+    }
 
 -- where all rules have one range from 0 the chain is one cell, and the same rules are below it
-module _ {ws : List ℕ} {c : ℕ} {rules ps : List ℕ} {f n k e : ℕ} (nz : n ≡ 0 → ⊥) (l : Flat rules f ps e) (r : Room ws c) (m : k ≤ c) where
-  begun : Going ws c (ends (fieldAt rules f) ps) k k c 1
-  begun = going-start ws c _ k 1 m (rw (l .one))
+module _ {ws : List ℕ} {c : ℕ} {rules ps : List ℕ} {f n k e : ℕ} (nz : n ≡ 0 → ⊥) (l : Flat rules f ps e) (r : Room ws c) (m : k ≤ c) {x : Bool} (h : x ≡ headsAre ws c k (e ∷ [])) where
+  pub flat-no : not x ≡ true → Differs ≡ told ws c k (treeAt rules f n ps)
+  flat-no d = compared-run ws c rules ps f n k nz r refl (rw (l .one) (run-differs ws c k (e ∷ []) (λ z. never (sym z ∙ was-no h d))))
 
-  only : e ≡ getD (ends (fieldAt rules f) ps) (1 - 1) 0
-  only = rw (l .one)
+  module _ (d : not x ≡ false) where
+    pub flat-inside : k < c
+    flat-inside = omega (arith, heads-inside ws c k (e ∷ []) m (was-yes h d))
 
-  pub flat-full : c ≤ k → Differs ≡ told ws c k (treeAt rules f n ps)
-  flat-full h = compared-run ws c rules ps f n k nz r refl (sym (going-full begun (omega arith) h))
+    head-one : headIs ws k e c ≡ true
+    unfolding headsAre before
+    head-one = rw add-zero at (and-right (ltb (k + 0) c) _ (was-yes h d))
 
-  module _ {x : Bool} (h : x ≡ headIs ws k e c) where
-    pub flat-no : not x ≡ true → Differs ≡ told ws c k (treeAt rules f n ps)
-    flat-no d = compared-run ws c rules ps f n k nz r refl (sym (going-no begun (omega arith) only h d))
-
-    module _ (i : k < c) (d : not x ≡ false) {a : Told} (t : a ≡ told ws c (k + 1) (treeAt rules (f + 1) (n - 1) ps)) where
-      start : Compared ws c rules ps f n k k (k + 1) k (k + 1)
-      start = compared-start ws c rules ps f n k nz m refl (sym (going-end (going-on begun (omega arith) only i h d) (omega arith)))
+    module _ {a : Told} (t : a ≡ told ws c (k + 1) (treeAt rules (f + 1) (n - 1) ps)) where
+      start : Compared ws c rules ps f n k (onlyDown k) (k + 1) k (k + 1)
+      unfolding toldRun before
+      start = compared-start ws c rules ps f n k nz m refl (rw (l .one, was-yes h d, add-zero))
 
       covered : ps ≡ keep (covers (fieldAt rules f) (getD ws (2 + 8 * k) 0)) ps
       unfolding headIs
-      covered = let z : getD ws (2 + 8 * k) 0 ≡ e = rw add-zero at (eqb-true (word ws k 0) e (and-left _ _ (was-yes h d))) in rw z (sym (l .all))
+      covered = let z : getD ws (2 + 8 * k) 0 ≡ e = rw add-zero at (eqb-true (word ws k 0) e (and-left _ _ head-one)) in rw z (sym (l .all))
 
       pub flat-not : a ≡ Differs → Differs ≡ told ws c k (treeAt rules f n ps)
       flat-not v = compared-not nz start r (omega arith) covered t v
 
-      module _ {past down : ℕ} {y : Bool} (u : a ≡ Same past down) (g : y ≡ restIs ws k down) where
+      module _ {past : ℕ} {down : Below} {y : Bool} (u : a ≡ Same past down) (g : y ≡ restIs ws k down) where
         pub flat-no-rest : not y ≡ true → Differs ≡ told ws c k (treeAt rules f n ps)
         flat-no-rest v = compared-no nz start r (omega arith) covered t u g v
 
-        pub flat-same : not y ≡ false → Same past k ≡ told ws c k (treeAt rules f n ps)
+        pub flat-same : not y ≡ false → Same past (onlyDown k) ≡ told ws c k (treeAt rules f n ps)
         flat-same v = compared-end nz (compared-on nz start r (omega arith) covered t u g v) (omega arith)
 
 -- THE FREE CHAIN
@@ -339,33 +391,33 @@ module _ (ws : List ℕ) (c : ℕ) (r : Room ws c) (i : ℕ) where
       rw z (sym (true-same _ _ (drop-of-length-le ws {i = 2 + 8 * i} (omega (arith, r .size)))))
 
   module _ (l : i < c) where
-    frees-cons : frees i (c - i) ≡ cell 0 (i + 1) 0 (frees (i + 1) (c - (i + 1)))
+    frees-cons : frees i (c - i) ≡ cell 0 (i + 1) (onlyDown 0) (frees (i + 1) (c - (i + 1)))
     unfolding frees
     frees-cons = let q : c - i ≡ suc (c - (i + 1)) = omega arith in rw q
 
-    free-here : from ws i ≡ frees i (c - i) → Cell ws i 0 (i + 1) 0
-    free-here h = cell-here ws i 0 (i + 1) 0 _ (h ∙ frees-cons)
+    free-here : from ws i ≡ frees i (c - i) → Cell ws i 0 (i + 1) (onlyDown 0)
+    free-here h = cell-here ws i 0 (i + 1) (onlyDown 0) _ (h ∙ frees-cons)
 
     pub free-no-head : {x : Bool} → x ≡ headIs ws i 0 (i + 1) → not x ≡ true → Free ≡ false
-    free-no-head a d = same-false _ _ (λ h. never (sym (cell-head ws i 0 (i + 1) 0 (free-here h)) ∙ was-no a d))
+    free-no-head a d = same-false _ _ (λ h. never (sym (cell-head ws i 0 (i + 1) (onlyDown 0) (free-here h)) ∙ was-no a d))
 
-    pub free-no-rest : {x : Bool} → x ≡ restIs ws i 0 → not x ≡ true → Free ≡ false
-    free-no-rest a d = same-false _ _ (λ h. never (sym (cell-others ws i 0 (i + 1) 0 (free-here h)) ∙ was-no a d))
+    pub free-no-rest : {x : Bool} → x ≡ restIs ws i (onlyDown 0) → not x ≡ true → Free ≡ false
+    free-no-rest a d = same-false _ _ (λ h. never (sym (cell-others ws i 0 (i + 1) (onlyDown 0) (free-here h)) ∙ was-no a d))
 
-    pub free-on : {x y : Bool} → x ≡ headIs ws i 0 (i + 1) → not x ≡ false → y ≡ restIs ws i 0 → not y ≡ false → Free ≡ same (from ws (i + 1)) (frees (i + 1) (c - (i + 1)))
+    pub free-on : {x y : Bool} → x ≡ headIs ws i 0 (i + 1) → not x ≡ false → y ≡ restIs ws i (onlyDown 0) → not y ≡ false → Free ≡ same (from ws (i + 1)) (frees (i + 1) (c - (i + 1)))
     free-on a d b g =
-        let h = cell-of ws c i 0 (i + 1) 0 r l (was-yes a d) (was-yes b g) in
+        let h = cell-of ws c i 0 (i + 1) (onlyDown 0) r l (was-yes a d) (was-yes b g) in
         same-test _ _
-        (λ t. true-same _ _ (sym (cell-rest ws i 0 (i + 1) 0 _ (same-true _ _ t ∙ frees-cons))))
-        (λ t. true-same _ _ (h ∙ ap (cell 0 (i + 1) 0) (same-true _ _ t) ∙ sym frees-cons))
+        (λ t. true-same _ _ (sym (cell-rest ws i 0 (i + 1) (onlyDown 0) _ (same-true _ _ t ∙ frees-cons))))
+        (λ t. true-same _ _ (h ∙ ap (cell 0 (i + 1) (onlyDown 0)) (same-true _ _ t) ∙ sym frees-cons))
 
 -- THE WHOLE PART
 module _ (ws : List ℕ) (c : ℕ) (t : Tree ℕ) where
   abbrev rest : List ℕ
-  rest = text c t 0 (frees (cells t) (c - cells t))
+  rest = treeText c t 0 (frees (cells t) (c - cells t))
 
   -- the three things that have to stand
-  taken : ws ≡ part c t → (getD ws 0 0 ≡ cells t) × (getD ws 1 0 ≡ first c t 0) × (from ws 0 ≡ rest)
+  taken : ws ≡ part c t → (getD ws 0 0 ≡ cells t) × (getD ws 1 0 ≡ first c t 0 .down) × (from ws 0 ≡ rest)
   unfolding part
   taken h = (ap (λ l. getD l 0 0) h, ap (λ l. getD l 1 0) h, ap (drop 2) h)
 
@@ -378,7 +430,7 @@ module _ (ws : List ℕ) (c : ℕ) (t : Tree ℕ) where
     pub part-differs : a ≡ Differs → false ≡ same ws (part c t)
     part-differs d = sym (same-false ws (part c t) (λ h. told-not ws c t 0 (sym told-so ∙ d) _ (taken h .2)))
 
-    module _ {past low : ℕ} (u : a ≡ Same past low) where
+    module _ {past : ℕ} {low : Below} (u : a ≡ Same past low) where
       stood : Held ws c t 0 × (past ≡ 0 + cells t) × (low ≡ first c t 0)
       stood = told-held ws c t 0 past low (sym told-so ∙ u)
 
@@ -388,16 +440,16 @@ module _ (ws : List ℕ) (c : ℕ) (t : Tree ℕ) where
       pub part-no-past : (getD ws 0 0 ≡ past → ⊥) → false ≡ same ws (part c t)
       part-no-past d = sym (same-false ws (part c t) (λ h. d (taken h .0 ∙ sym ends-at)))
 
-      pub part-no-low : (getD ws 1 0 ≡ low → ⊥) → false ≡ same ws (part c t)
-      part-no-low d = sym (same-false ws (part c t) (λ h. d (taken h .1 ∙ sym (stood .2))))
+      pub part-no-low : (getD ws 1 0 ≡ low .down → ⊥) → false ≡ same ws (part c t)
+      part-no-low d = sym (same-false ws (part c t) (λ h. d (taken h .1 ∙ ap (λ b. b .down) (sym (stood .2)))))
 
-      pub part-rest : length ws ≡ 2 + 8 * c → getD ws 0 0 ≡ past → getD ws 1 0 ≡ low → (b : Bool) → b ≡ same (from ws past) (frees past (c - past)) → b ≡ same ws (part c t)
+      pub part-rest : length ws ≡ 2 + 8 * c → getD ws 0 0 ≡ past → getD ws 1 0 ≡ low .down → (b : Bool) → b ≡ same (from ws past) (frees past (c - past)) → b ≡ same ws (part c t)
       unfolding part
       part-rest n p q b h =
           let v = stood in
           let z : 0 + cells t ≡ cells t = omega arith in
-          let hold : from ws 0 ≡ text c t 0 (from ws (cells t)) = rw z at (v .0) in
-          let behind : (r : List ℕ) → from ws 0 ≡ text c t 0 r → from ws (cells t) ≡ r = λ r g. sym (rw z at (text-rest ws c t 0 r g)) in
+          let hold : from ws 0 ≡ treeText c t 0 (from ws (cells t)) = rw z at (v .0) in
+          let behind : (r : List ℕ) → from ws 0 ≡ treeText c t 0 r → from ws (cells t) ≡ r = λ r g. sym (rw z at (text-rest ws c t 0 r g)) in
           h ∙ rw ends-at (same-test _ _
-          (λ s. true-same ws (part c t) (made ws (omega arith) ∙ rw (p ∙ ends-at, q ∙ v .2) (ap (λ l. cells t ∷ first c t 0 ∷ l) (hold ∙ ap (λ l. text c t 0 l) (same-true _ _ s)))))
+          (λ s. true-same ws (part c t) (made ws (omega arith) ∙ rw (p ∙ ends-at, q ∙ ap (λ b. b .down) (v .2)) (ap (λ l. cells t ∷ first c t 0 .down ∷ l) (hold ∙ ap (λ l. treeText c t 0 l) (same-true _ _ s)))))
           (λ s. true-same _ _ (behind _ (taken (same-true ws (part c t) s) .2))))

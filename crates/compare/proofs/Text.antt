@@ -3,7 +3,7 @@
 use mathlib.Core.Path.{_≡_, refl, sym, ap, _∙_}
 use mathlib.Core.Bool.{true}
 use mathlib.Core.List.{List, [], _∷_}
-use Prim.Native.Nat.{ℕ, zero, suc, _+_, _-_, _*_, _≤_, _<_}
+use Prim.Native.Nat.{ℕ, _+_, _-_, _*_, _≤_, _<_}
 use native.Mathlib.Omega.{arith}
 use lib.Dec.{eqb}
 use lib.ListN.{length, getD, drop, length-drop}
@@ -11,8 +11,9 @@ use lib.Seq.{drop-drop, getD-drop}
 use borrow.Author.Tests.{eqb-true, eq-eqb}
 use Rattle.model.specs.Rules.{Tree, names, stop, loc, cells}
 use Rattle.model.proofs.Tests.{and-left, and-right}
-use Rattle.cells.specs.Text.{word, cell, frees, Run, nil, snoc, len, low, row, width, under, first, marks, belows, text, part}
+use Rattle.cells.specs.Text.{word, cell, frees, Run, nil, snoc, len, low, row, width, under, first, marks, belows, treeText, part}
 use Rattle.cells.proofs.Text.{row-length, marks-len, belows-length, frees-length, cells-sum}
+use Rattle.cells.specs.declared.Below.{Below}
 use Rattle.compare.specs.declared.Told.the-variants.{Same, Differs}
 use Rattle.model.specs.Lists.{same}
 use Rattle.compare.specs.Compare.{Room, from, told, headIs, restIs}
@@ -20,7 +21,7 @@ use Rattle.model.proofs.UpTo.{same-true, true-same}
 use Rattle.compare.proofs.Answers.{answer-no, answer-differs, answer-same}
 
 -- sizes
-pub text-length : (c : ℕ) (t : Tree ℕ) (a : ℕ) (r : List ℕ) → length (text c t a r) ≡ 8 * cells t + length r
+pub text-length : (c : ℕ) (t : Tree ℕ) (a : ℕ) (r : List ℕ) → length (treeText c t a r) ≡ 8 * cells t + length r
 text-length c t a r =
     let b = a + width t in
     omega (arith, cells-sum t, row-length c (marks c t b) a (belows c t b r), marks-len c t b, belows-length c t b r)
@@ -37,26 +38,26 @@ module _ (ws : List ℕ) where
   from-next k = let z : 2 + 8 * k + 8 ≡ 2 + 8 * (k + 1) = omega arith in drop-drop 8 (2 + 8 * k) ws ∙ ap (λ n. drop n ws) z
 
   -- cell k holds an end, a next and a down, and zeros
-  abbrev pub Cell : ℕ → ℕ → ℕ → ℕ → Type 0
+  abbrev pub Cell : ℕ → ℕ → ℕ → Below → Type 0
   Cell k e n d = from ws k ≡ cell e n d (from ws (k + 1))
 
-  pub cell-rest : (k e n d : ℕ) (r : List ℕ) → from ws k ≡ cell e n d r → r ≡ from ws (k + 1)
+  pub cell-rest : (k e n : ℕ) (d : Below) (r : List ℕ) → from ws k ≡ cell e n d r → r ≡ from ws (k + 1)
   cell-rest k e n d r h = ap (drop 8) (sym h) ∙ from-next k
 
-  pub cell-here : (k e n d : ℕ) (r : List ℕ) → from ws k ≡ cell e n d r → Cell k e n d
+  pub cell-here : (k e n : ℕ) (d : Below) (r : List ℕ) → from ws k ≡ cell e n d r → Cell k e n d
   cell-here k e n d r h = h ∙ ap (cell e n d) (cell-rest k e n d r h)
 
   word-from : (k j : ℕ) → word ws k j ≡ getD (from ws k) j 0
   word-from k j = sym (getD-drop (2 + 8 * k) ws j 0)
 
-  module _ (k e n d : ℕ) (h : Cell k e n d) where
+  module _ (k e n : ℕ) (d : Below) (h : Cell k e n d) where
     pub cell-head : headIs ws k e n ≡ true
     unfolding headIs
     cell-head = rw (word-from k 0, word-from k 1, h, eq-eqb e e refl, eq-eqb n n refl)
 
     pub cell-others : restIs ws k d ≡ true
     unfolding restIs
-    cell-others = rw (word-from k 2, word-from k 3, word-from k 4, word-from k 5, word-from k 6, word-from k 7, h, eq-eqb d d refl)
+    cell-others = rw (word-from k 2, word-from k 3, word-from k 4, word-from k 5, word-from k 6, word-from k 7, h, eq-eqb (d .down) (d .down) refl, eq-eqb (d .side) (d .side) refl)
 
     pub cell-inside : (c : ℕ) → Room ws c → k < c
     cell-inside c r = omega (arith, ap length h, length-drop (2 + 8 * k) ws, r .size)
@@ -72,11 +73,11 @@ module _ (ws : List ℕ) where
   split (x0 ∷ x1 ∷ x2 ∷ x3 ∷ x4 ∷ x5 ∷ []) h = absurd (omega arith)
   split (x0 ∷ x1 ∷ x2 ∷ x3 ∷ x4 ∷ x5 ∷ x6 ∷ []) h = absurd (omega arith)
 
-  pub cell-of : (c k e n d : ℕ) → Room ws c → k < c → headIs ws k e n ≡ true → restIs ws k d ≡ true → Cell k e n d
+  pub cell-of : (c k e n : ℕ) (d : Below) → Room ws c → k < c → headIs ws k e n ≡ true → restIs ws k d ≡ true → Cell k e n d
   unfolding headIs restIs
   cell-of c k e n d r l h g =
-      let g1 = and-right (eqb (word ws k 2) d) _ g in
-      let g2 = and-right (eqb (word ws k 3) 0) _ g1 in
+      let g1 = and-right (eqb (word ws k 2) (d .down)) _ g in
+      let g2 = and-right (eqb (word ws k 3) (d .side)) _ g1 in
       let g3 = and-right (eqb (word ws k 4) 0) _ g2 in
       let g4 = and-right (eqb (word ws k 5) 0) _ g3 in
       let is : (j v : ℕ) → eqb (word ws k j) v ≡ true → getD (from ws k) j 0 ≡ v = λ j v t. sym (word-from k j) ∙ eqb-true (word ws k j) v t in
@@ -84,8 +85,8 @@ module _ (ws : List ℕ) where
       ∙ rw (
         is 0 e (and-left _ _ h),
         is 1 n (and-right (eqb (word ws k 0) e) _ h),
-        is 2 d (and-left _ _ g),
-        is 3 0 (and-left _ _ g1),
+        is 2 (d .down) (and-left _ _ g),
+        is 3 (d .side) (and-left _ _ g1),
         is 4 0 (and-left _ _ g2),
         is 5 0 (and-left _ _ g3),
         is 6 0 (and-left _ _ g4),
@@ -97,7 +98,7 @@ module _ (ws : List ℕ) where
 module _ (ws : List ℕ) (c : ℕ) where
   -- the text of t stands from cell k on
   abbrev pub Held : Tree ℕ → ℕ → Type 0
-  Held t k = from ws k ≡ text c t k (from ws (k + cells t))
+  Held t k = from ws k ≡ treeText c t k (from ws (k + cells t))
 
   -- the same cell by cell: the run of t from cell k on, and what is below it from cell b on
   abbrev pub Parts : ℕ → ℕ → Tree ℕ → Type 0
@@ -127,7 +128,7 @@ module _ (ws : List ℕ) (c : ℕ) where
       let w : k + (width t + 1) ≡ k + width t + 1 = omega arith in
       let x : b + (under t + (width u + under u)) ≡ z + under u = omega arith in
       let x' : y + cells u ≡ z + under u = omega (arith, cells-sum u) in (
-        (i .0, cell-here ws (k + width t) e n d r (sym (i .1)), rw x' (sym (i .2) ∙ ap (λ l. text c u y l) (v .2))),
+        (i .0, cell-here ws (k + width t) e n d r (sym (i .1)), rw x' (sym (i .2) ∙ ap (λ l. treeText c u y l) (v .2))),
         rw w (cell-rest ws (k + width t) e n d r (sym (i .1))),
         rw x (v .2),
       )
@@ -148,7 +149,7 @@ module _ (ws : List ℕ) (c : ℕ) where
     end = omega (arith, cells-sum t)
 
     -- whatever is behind the text of t
-    module _ (r : List ℕ) (h : from ws k ≡ text c t k r) where
+    module _ (r : List ℕ) (h : from ws k ≡ treeText c t k r) where
       both : Parts k (k + width t) t × (belows c t (k + width t) r ≡ from ws (k + width t)) × (r ≡ from ws (k + width t + under t))
       both =
           let b = k + width t in
@@ -172,15 +173,15 @@ module _ (ws : List ℕ) (c : ℕ) where
     unfolding told
     told-differs h = answer-no _ _ _ (λ q. h (same-true _ _ q))
 
-    pub told-not : told ws c k t ≡ Differs → (r : List ℕ) → from ws k ≡ text c t k r → ⊥
+    pub told-not : told ws c k t ≡ Differs → (r : List ℕ) → from ws k ≡ treeText c t k r → ⊥
     unfolding told
-    told-not d r h = answer-differs _ (k + cells t) (first c t k) d (true-same _ _ (h ∙ ap (λ l. text c t k l) (text-rest r h)))
+    told-not d r h = answer-differs _ (k + cells t) (first c t k) d (true-same _ _ (h ∙ ap (λ l. treeText c t k l) (text-rest r h)))
 
-    module _ (p l : ℕ) (h : told ws c k t ≡ Same p l) where
+    module _ (p : ℕ) (l : Below) (h : told ws c k t ≡ Same p l) where
       pub told-held : Held t k × (p ≡ k + cells t) × (l ≡ first c t k)
       unfolding told
       told-held =
-          let v = answer-same (same (from ws k) (text c t k (from ws (k + cells t)))) (k + cells t) (first c t k) h in
+          let v = answer-same (same (from ws k) (treeText c t k (from ws (k + cells t)))) (k + cells t) (first c t k) h in
           (same-true _ _ (v .0), v .1, v .2)
 
       pub told-inside : Room ws c → k ≤ c → p ≤ c

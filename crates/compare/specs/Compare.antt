@@ -8,7 +8,8 @@ use lib.Dec.{ltb, eqb}
 use lib.ListN.{length, drop}
 use Rattle.model.specs.Lists.{same}
 use Rattle.model.specs.Rules.{Tree, cells}
-use Rattle.cells.specs.Text.{word, first, text}
+use Rattle.cells.specs.Text.{word, onlyDown, first, treeText}
+use Rattle.cells.specs.declared.Below.{Below}
 use Rattle.compare.specs.declared.Told.{Told}
 use Rattle.compare.specs.declared.Told.the-variants.{Same, Differs}
 
@@ -21,22 +22,22 @@ pub record Room (ws : List ℕ) (c : ℕ) : Type 0 where
 abbrev pub from : List ℕ → ℕ → List ℕ
 from ws k = drop (2 + 8 * k) ws
 
--- what a comparison answers, where its test is b: the cell behind the last one that was compared, and where a walk begins
-abbrev pub answer : Bool → ℕ → ℕ → Told
+-- what a comparison answers, where its test is b: the cell behind the last one that was compared, and what a cell above it says
+abbrev pub answer : Bool → ℕ → Below → Told
 answer true past low = Same past low
 answer false past low = Differs
 
 -- the text of the tree t stands in the words from cell k on
 unfoldable pub told : List ℕ → ℕ → ℕ → Tree ℕ → Told
-told ws c k t = answer (same (from ws k) (text c t k (from ws (k + cells t)))) (k + cells t) (first c t k)
+told ws c k t = answer (same (from ws k) (treeText c t k (from ws (k + cells t)))) (k + cells t) (first c t k)
 
 -- the first two words of cell k: its end and its next; and the other six: what is below it, and zeros
 unfoldable pub headIs : List ℕ → ℕ → ℕ → ℕ → Bool
 headIs ws k e n = eqb (word ws k 0) e && eqb (word ws k 1) n
 
-unfoldable pub restIs : List ℕ → ℕ → ℕ → Bool
-restIs ws k d =
-    eqb (word ws k 2) d && (eqb (word ws k 3) 0 && (eqb (word ws k 4) 0 && (eqb (word ws k 5) 0 && (eqb (word ws k 6) 0 && eqb (word ws k 7) 0))))
+unfoldable pub restIs : List ℕ → ℕ → Below → Bool
+restIs ws k b =
+    eqb (word ws k 2) (b .down) && (eqb (word ws k 3) (b .side) && (eqb (word ws k 4) 0 && (eqb (word ws k 5) 0 && (eqb (word ws k 6) 0 && eqb (word ws k 7) 0))))
 
 -- The run of the ends es, lowest first, as a chain has them, stands from cell k on: the highest in cell k. Its last cell, or c where there is none:
 unfoldable pub before : ℕ → ℕ → List ℕ → ℕ
@@ -49,4 +50,4 @@ headsAre ws c k [] = true
 headsAre ws c k (e ∷ es) = headsAre ws c k es && (ltb (k + length es) c && headIs ws (k + length es) e (before c k es))
 
 unfoldable pub toldRun : List ℕ → ℕ → ℕ → List ℕ → Told
-toldRun ws c k es = answer (headsAre ws c k es) (k + length es) (before c k es)
+toldRun ws c k es = answer (headsAre ws c k es) (k + length es) (onlyDown (before c k es))

@@ -1,16 +1,18 @@
 // Whether words are exactly the text of a tree and then the free chain. The tree is not made: its chains are gone through in the order in which they would be built, and each cell is compared with what would be written there.
+use cells::Below;
 ghost use mathlib.Core.Path.{_≡_};
+ghost use mathlib.Core.List.{[], _∷_};
 ghost use Prim.Native.Nat.{_+_, _-_, _*_, _≤_, _<_};
-ghost use lib.ListN.{length};
+ghost use lib.ListN.{length, getD, take};
 ghost use Rattle.model.specs.Rules.{ends as endsOf};
-ghost use Rattle.rows.specs.Rows.{fieldAt, treeAt};
-ghost use Rattle.cells.specs.Text.{frees, part};
+ghost use Rattle.rows.specs.Rows.{fieldAt, firstOf, treeAt, Scratch};
+ghost use Rattle.cells.specs.Text.{onlyDown, frees, part};
 ghost use Rattle.model.specs.Lists.{same};
-ghost use Rattle.compare.specs.Compare.{Room, from, headIs, restIs, told, toldRun};
+ghost use Rattle.compare.specs.Compare.{Room, from, headIs, restIs, told, headsAre, toldRun};
 
-// What a comparison tells: it stands there, with the cell behind the last one and the cell where a walk begins; or it does not.
+// What a comparison tells: it stands there, with the cell behind the last one and what a cell above it says; or it does not.
 pub enum Told {
-    Same(u32, u32),
+    Same(u32, Below),
     Differs,
 }
 
@@ -26,10 +28,10 @@ fn head_is(words: &[u32], c: u32, k: u32, end: u32, next: u32) -> bool
     words[i + 1] == next
 }
 
-// Whether cell k has a cell below it, and then zeros. All six words are read before the first is tested: one test of them all is made of that.
-fn rest_is(words: &[u32], c: u32, k: u32, down: u32) -> bool
+// Whether cell k says what is below it, and then zeros. All six words are read before the first is tested: one test of them all is made of that.
+fn rest_is(words: &[u32], c: u32, k: u32, under: Below) -> bool
     requires { ⌜ Room (now words) c × (k < c) ⌝ }
-    ensures { λ r. ⌜ r ≡ restIs (now (words .entry)) k down ⌝ }
+    ensures { λ r. ⌜ r ≡ restIs (now (words .entry)) k under ⌝ }
 {
     let i = 2 + 8 * (k as usize);
     let below = words[i + 2];
@@ -38,10 +40,12 @@ fn rest_is(words: &[u32], c: u32, k: u32, down: u32) -> bool
     let d = words[i + 5];
     let e = words[i + 6];
     let f = words[i + 7];
+    let down = under.down;
+    let side = under.side;
     if below != down {
         return false;
     }
-    if a != 0 {
+    if a != side {
         return false;
     }
     if b != 0 {
@@ -56,20 +60,31 @@ fn rest_is(words: &[u32], c: u32, k: u32, down: u32) -> bool
     f == 0
 }
 
-// Whether the cells from k on have the ends of the rules at the places of the set in a field, the highest first, each with the cell before it as its next. The ends are written beside, over what stood there.
-fn run_is(
-    words: &[u32],
-    c: u32,
-    rules: &[u32],
-    set: &[u32],
-    field: u32,
-    k: u32,
-    ends: &mut [u32],
-) -> Told
-    requires { ⌜ Room (now words) c × (k ≤ c) × (length (now set) ≤ 65) × (length (now ends) ≡ 130) ⌝ }
-    ensures { λ r. ⌜ r ≡ toldRun (now (words .entry)) c k (endsOf (fieldAt (now (rules .entry)) field) (now (set .entry))) ⌝ }
+// The end of cell k.
+fn end_at(words: &[u32], c: u32, k: u32) -> u32
+    requires { ⌜ Room (now words) c × (k < c) ⌝ }
+    ensures { λ r. ⌜ r ≡ getD (now (words .entry)) (2 + 8 * k) 0 ⌝ }
 {
-    let mut i = rows::ends_of(rules, set, field, ends);
+    words[2 + 8 * (k as usize)]
+}
+
+// Whether cell k is the run of one end.
+fn one_is(words: &[u32], c: u32, end: u32, k: u32) -> bool
+    requires { ⌜ Room (now words) c × (k ≤ c) ⌝ }
+    ensures { λ r. ⌜ r ≡ headsAre (now (words .entry)) c k (end ∷ []) ⌝ }
+{
+    if c <= k {
+        return false;
+    }
+    head_is(words, c, k, end, c)
+}
+
+// Whether the cells from k on are the run of the ends, which rise: the highest first, each with the cell before it as its next.
+fn run_of(words: &[u32], c: u32, ends: &[u32], k: u32) -> Told
+    requires { ⌜ Room (now words) c × (k ≤ c) ⌝ }
+    ensures { λ r. ⌜ r ≡ toldRun (now (words .entry)) c k (now (ends .entry)) ⌝ }
+{
+    let mut i = ends.len();
     let mut next = k;
     let mut head = c;
     while 0 < i {
@@ -83,28 +98,73 @@ fn run_is(
         head = next;
         next += 1;
     }
-    Told::Same(next, head)
+    Told::Same(
+        next,
+        Below {
+            down: head,
+            side: 0,
+        },
+    )
 }
 
-// Whether each cell of a run of the last field, which stands from cell k up to end, names the first rule that covers its end. The run's lowest end is at the cell low.
+// Whether the cells from k on are the run of the ends of the rules of the set in a field. The ends are written beside, over what stood there.
+fn run_is(
+    words: &[u32],
+    c: u32,
+    rules: &[u32],
+    set: &[u16],
+    field: u32,
+    k: u32,
+    ends: &mut [u32],
+) -> Told
+    requires { ⌜ Room (now words) c × (k ≤ c) × (2 * length (now set) ≤ length (now ends)) ⌝ }
+    ensures { λ r. ⌜ r ≡ toldRun (now (words .entry)) c k (endsOf (fieldAt (now (rules .entry)) field) (now (set .entry))) ⌝ }
+{
+    let n = rows::ends_of(rules, &rules[..0], set, field, ends);
+    run_of(words, c, &ends[..n], k)
+}
+
+// What stands where no field is left: the place of the first rule of the set, and no cell.
+fn leaf_is(set: &[u16], k: u32) -> Told
+    ensures { λ r. ⌜ r ≡ Told.Same k (onlyDown (firstOf (now (set .entry)))) ⌝ }
+{
+    Told::Same(
+        k,
+        Below {
+            down: rows::first_place(set),
+            side: 0,
+        },
+    )
+}
+
+// Whether each cell of a run of the last field, which stands from cell k up to end, names the first rule that covers its end. A cell above it says low.
 fn last_is(
     words: &[u32],
     c: u32,
     rules: &[u32],
-    set: &[u32],
+    set: &[u16],
     field: u32,
     k: u32,
     end: u32,
-    low: u32,
+    low: Below,
 ) -> Told
     requires { ⌜ Room (now words) c × (k ≤ c) × (toldRun (now words) c k (endsOf (fieldAt (now rules) field) (now set)) ≡ Told.Same end low) ⌝ }
     ensures { λ r. ⌜ r ≡ told (now (words .entry)) c k (treeAt (now (rules .entry)) field 1 (now (set .entry))) ⌝ }
 {
+    let none = &rules[..0];
     let mut i = k;
     while i < end {
-        let e = words[2 + 8 * (i as usize)];
-        let named = rows::least(rules, set, field, e);
-        if !rest_is(words, c, i, named) {
+        let e = end_at(words, c, i);
+        let named = rows::least(rules, none, set, field, e);
+        if !rest_is(
+            words,
+            c,
+            i,
+            Below {
+                down: named,
+                side: 0,
+            },
+        ) {
             return Told::Differs;
         }
         i += 1;
@@ -112,42 +172,52 @@ fn last_is(
     Told::Same(end, low)
 }
 
-// Whether the cells from k on are the tree of the rules at the places of the set, over left fields from field on. Where all rules have one range from 0, the chain is one cell, with the same rules below it. Else first the ends of the chain's run; then, cell by cell, what is below each: it begins at cell b. The ends of each run in turn are written beside.
+// Whether the cells from k on are the tree of the rules of the set, which is the first n numbers of sets, over left fields from field on. Where all rules have one range from 0, the chain is one cell, with the same rules below it. Else first the ends of the chain's run; then, cell by cell, what is below each: it begins at cell b, and the set of its rules is written behind this one. The ends of each run in turn are written beside.
 fn compare_chain(
     words: &[u32],
     c: u32,
     rules: &[u32],
-    set: &[u32],
+    sets: &mut [u16],
+    n: usize,
     field: u32,
     left: u32,
     k: u32,
     ends: &mut [u32],
 ) -> Told
-    requires { ⌜ Room (now words) c × (length (now set) ≤ 65) × (field + left ≤ 64) × (k ≤ c) × (length (now ends) ≡ 130) ⌝ }
-    ensures { λ r. ⌜ r ≡ told (now (words .entry)) c k (treeAt (now (rules .entry)) field left (now (set .entry))) ⌝ }
+    requires { ⌜ Room (now words) c × Scratch n left (now sets) (now ends) × (field + left ≤ 64) × (k ≤ c) ⌝ }
+    ensures { λ r. ⌜ r ≡ told (now (words .entry)) c k (treeAt (now (rules .entry)) field left (take n (now (sets .entry)))) ⌝ }
 {
+    let set = &sets[..n];
     if left == 0 {
-        return Told::Same(k, rows::first_place(set));
+        return leaf_is(set, k);
     }
-    let high = rows::high(rules, rows::first_place(set), field);
-    if rows::flat(rules, set, field, high) {
-        if c <= k {
-            return Told::Differs;
-        }
-        if !head_is(words, c, k, high, c) {
+    let none = &rules[..0];
+    let high = rows::high(rules, none, rows::first_place(set), field);
+    if rows::flat(rules, none, set, field, high) {
+        if !one_is(words, c, high, k) {
             return Told::Differs;
         }
         if left == 1 {
-            if !rest_is(words, c, k, rows::first_place(set)) {
+            let named = rows::first_place(set);
+            if !rest_is(
+                words,
+                c,
+                k,
+                Below {
+                    down: named,
+                    side: 0,
+                },
+            ) {
                 return Told::Differs;
             }
-            return Told::Same(k + 1, k);
+            return Told::Same(k + 1, Below { down: k, side: 0 });
         }
         let Told::Same(past, down) = compare_chain(
             words,
             c,
             rules,
-            set,
+            sets,
+            n,
             field + 1,
             left - 1,
             k + 1,
@@ -158,7 +228,7 @@ fn compare_chain(
         if !rest_is(words, c, k, down) {
             return Told::Differs;
         }
-        return Told::Same(past, k);
+        return Told::Same(past, Below { down: k, side: 0 });
     }
     let Told::Same(end, low) = run_is(words, c, rules, set, field, k, ends) else {
         return Told::Differs;
@@ -166,17 +236,17 @@ fn compare_chain(
     if left == 1 {
         return last_is(words, c, rules, set, field, k, end, low);
     }
-    let mut under = [0u32; 65];
     let mut i = k;
     let mut b = end;
     while i < end {
-        let e = words[2 + 8 * (i as usize)];
-        let n = rows::narrow(rules, set, field, e, &mut under);
+        let e = end_at(words, c, i);
+        let m = rows::narrow(rules, none, sets, n, field, e);
         let Told::Same(past, down) = compare_chain(
             words,
             c,
             rules,
-            &under[..n],
+            &mut sets[n..],
+            m,
             field + 1,
             left - 1,
             b,
@@ -203,7 +273,7 @@ fn free_from(words: &[u32], c: u32, k: u32) -> bool
         if !head_is(words, c, i, 0, i + 1) {
             return false;
         }
-        if !rest_is(words, c, i, 0) {
+        if !rest_is(words, c, i, Below { down: 0, side: 0 }) {
             return false;
         }
         i += 1;
@@ -211,19 +281,26 @@ fn free_from(words: &[u32], c: u32, k: u32) -> bool
     true
 }
 
-// Whether the words, which are the part of a store of c cells from its two links on, are those of the tree of the rules at the places of the set: the links, the tree from cell 0 on, and then the free chain with all other cells.
-pub fn part_is(words: &[u32], c: u32, rules: &[u32], set: &[u32], fields: u32) -> bool
-    requires { ⌜ (length (now words) ≡ 2 + 8 * c) × (c ≤ 65536) × (length (now set) ≤ 65) × (fields ≤ 62) ⌝ }
-    ensures { λ r. ⌜ r ≡ same (now (words .entry)) (part c (treeAt (now (rules .entry)) 0 fields (now (set .entry)))) ⌝ }
+// Whether the words, which are the part of a store of c cells from its two links on, are those of the tree of the rules of the set, which is the first n numbers of sets: the links, the tree from cell 0 on, and then the free chain with all other cells. The other numbers of sets, and ends, are scratch.
+pub fn part_is(
+    words: &[u32],
+    c: u32,
+    rules: &[u32],
+    sets: &mut [u16],
+    n: usize,
+    fields: u32,
+    ends: &mut [u32],
+) -> bool
+    requires { ⌜ (length (now words) ≡ 2 + 8 * c) × (c ≤ 65536) × Scratch n fields (now sets) (now ends) × (fields ≤ 62) ⌝ }
+    ensures { λ r. ⌜ r ≡ same (now (words .entry)) (part c (treeAt (now (rules .entry)) 0 fields (take n (now (sets .entry))))) ⌝ }
 {
-    let mut ends = [0u32; 130];
-    let Told::Same(past, low) = compare_chain(words, c, rules, set, 0, fields, 0, &mut ends) else {
+    let Told::Same(past, low) = compare_chain(words, c, rules, sets, n, 0, fields, 0, ends) else {
         return false;
     };
     if words[0] != past {
         return false;
     }
-    if words[1] != low {
+    if words[1] != low.down {
         return false;
     }
     free_from(words, c, past)

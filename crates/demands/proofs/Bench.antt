@@ -9,57 +9,54 @@ use lib.Dec.{ltb}
 use lib.ListN.{length}
 use borrow.Author.Tests.{le-ltb}
 use Rattle.model.specs.Bench.{rule10, rule20, rows, decided, starred, packet, fresh as alone, both as rules}
-use Rattle.model.specs.Table.{Rule, Table, withRule, without, insertAnswer, deleteAnswer, cellsOf, winnerOf, readsOf}
-use Rattle.model.specs.Ipv4.{ipv4}
-use Rattle.stored.specs.Store.{size, cellsIn, tableOf, startAnswer, startWords, insertSays, insertWords, deleteSays, deleteWords, cellsGives}
-use Rattle.stored.proofs.Sound.{room-is}
-use Rattle.lookup.specs.declared.Found.{Found}
-use Rattle.demands.specs.Calls.{Passes, lookup}
+use Rattle.model.specs.Table.{Rule, Table, withRule, without, insertAnswer, deleteAnswer, cellsOf}
+use Rattle.model.specs.Ipv4.{ipv4, ipv4-shaped}
+use Rattle.layout.specs.Store.{size, cellsIn, tableOf, startAnswer, startWords, insertSays, insertWords, deleteSays, deleteWords, cellsGives}
+use Rattle.layout.proofs.Sound.{room-is}
+use Rattle.demands.specs.Calls.{Passes, fieldCount, lookup}
 use Rattle.prefix.specs.Prefix.{refuses, rangeOf}
-use Rattle.demands.specs.Bench.{again, packetOf, told, Taken, Full, Starred}
-use Rattle.demands.proofs.Held.{start-leaves, insert-leaves, delete-leaves}
-use Rattle.demands.proofs.Decided.{lookup-says}
+use Rattle.demands.specs.Bench.{asPacket, answerFor, WithRoom, WithoutRoom, StarredCalls}
+use Rattle.demands.proofs.Held.{in-use, start-leaves, insert-leaves, delete-leaves}
+use Rattle.demands.proofs.Packets.{tops-right}
+use Rattle.demands.proofs.Decided.{foundOf, lookup-is}
 
 -- the words are a store of c cells that passes and holds t
 record Is (ws : List ℕ) (c : ℕ) (t : Table) : Type 0 where
-  pass : Passes ws
+  pass : Passes ipv4 ws
   table : tableOf ipv4 ws ≡ t
-  cells : cellsIn ws ≡ c
+  cells-left : cellsIn ws ≡ c
 
-started : (lent : List ℕ) (c : ℕ) → 5 ≤ c → c ≤ 65536 → size c ≤ length lent → startAnswer ipv4 lent c ≡ 0
-started lent c a b l = rw (room-is c lent (record { least = a; most = b; long = l }))
+started : (lent : List ℕ) (c : ℕ) → fieldCount ipv4 ≤ c → c ≤ 65536 → size ipv4 c ≤ length lent → startAnswer ipv4 lent c ≡ 0
+started lent c a b l = rw (room-is ipv4 c lent (record { least = a; most = b; long = l }))
 
 is-fresh : (lent : List ℕ) (c a : ℕ) → startAnswer ipv4 lent c ≡ 0 → Is (startWords ipv4 lent c a) c (record { action = a; rules = [] })
-is-fresh lent c a h = let l = start-leaves lent c a h in record { pass = l .pass; table = l .table; cells = l .cells }
+is-fresh lent c a h = let l = start-leaves ipv4 ipv4-shaped lent c a h in record { pass = l .pass; table = l .table; cells-left = l .cells-left }
 
 module _ {ws : List ℕ} {c : ℕ} {t : Table} (s : Is ws c t) where
   says : (r : Rule) → insertSays ipv4 ws r ≡ insertAnswer ipv4 c t r
-  says r = rw (s .pass) (ap₂ (λ (n : ℕ) (x : Table). insertAnswer ipv4 n x r) (s .cells) (s .table))
+  says r = rw (s .pass) (ap₂ (λ (n : ℕ) (x : Table). insertAnswer ipv4 n x r) (s .cells-left) (s .table))
 
   is-with : (r : Rule) → insertAnswer ipv4 c t r ≡ 0 → Is (insertWords ipv4 ws r) c (withRule r t)
-  is-with r h = let l = insert-leaves ws r (says r ∙ h) in record { pass = l .pass; table = l .table ∙ ap (withRule r) (s .table); cells = l .cells ∙ s .cells }
+  is-with r h = let l = insert-leaves ipv4 ipv4-shaped ws r (says r ∙ h) in record { pass = l .pass; table = l .table ∙ ap (withRule r) (s .table); cells-left = l .cells-left ∙ s .cells-left }
 
   goes-says : (n : ℕ) → deleteSays ipv4 ws n ≡ deleteAnswer t n
   goes-says n = rw (s .pass) (ap (λ (x : Table). deleteAnswer x n) (s .table))
 
   is-without : (n : ℕ) → deleteAnswer t n ≡ 0 → Is (deleteWords ipv4 ws n) c (without n t)
-  is-without n h = let l = delete-leaves ws n (goes-says n ∙ h) in record { pass = l .pass; table = l .table ∙ ap (without n) (s .table); cells = l .cells ∙ s .cells }
+  is-without n h = let l = delete-leaves ipv4 ipv4-shaped ws n (goes-says n ∙ h) in record { pass = l .pass; table = l .table ∙ ap (without n) (s .table); cells-left = l .cells-left ∙ s .cells-left }
 
   counts : cellsGives ipv4 ws ≡ cellsOf ipv4 t
-  counts = rw (s .pass) (ap (cellsOf ipv4) (s .table))
+  counts = in-use ipv4 ipv4-shaped ws t (s .pass) (s .table)
 
 -- THE LOOKUPS in a store that holds both rules
 module _ {ws : List ℕ} {c : ℕ} (s : Is ws c rules) where
   -- of a row's values, none above its top
-  row : (destination protocol port : ℕ) → destination ≤ 4294967295 → protocol ≤ 255 → port ≤ 65535 → lookup ws (packetOf (packet destination protocol port)) ≡ told (decided (packet destination protocol port))
+  row : (destination protocol port : ℕ) → destination ≤ 4294967295 → protocol ≤ 255 → port ≤ 65535 → lookup ws (asPacket (packet destination protocol port)) ≡ answerFor (decided (packet destination protocol port))
   row destination protocol port a b d =
-      lookup-says ws (packetOf (packet destination protocol port)) (s .pass) (record { destination-top = a; source-top = omega arith; protocol-top = b; destination-port-top = d; source-port-top = omega arith })
-      ∙ ap says-of (s .table)
-    where
-      says-of : Table → Found
-      says-of x = record { answer = 0; rule = winnerOf ipv4 x (packet destination protocol port) .number; action = winnerOf ipv4 x (packet destination protocol port) .action; reads = readsOf ipv4 x (packet destination protocol port) }
+      lookup-is ipv4 ipv4-shaped ws (s .pass) (packet destination protocol port) (tops-right (asPacket (packet destination protocol port)) (record { destination-top = a; source-top = omega arith; protocol-top = b; destination-port-top = d; source-port-top = omega arith }))
+      ∙ ap (λ (x : Table). foundOf ipv4 x (packet destination protocol port)) (s .table)
 
-  all-rows : map (λ r. lookup ws (packetOf (r .asked))) rows ≡ map told rows
+  all-rows : map (λ r. lookup ws (asPacket (r .asked))) rows ≡ map answerFor rows
   all-rows =
       (λ i.
       row 167772165 17 5004 (omega arith) (omega arith) (omega arith) i
@@ -70,13 +67,13 @@ module _ {ws : List ℕ} {c : ℕ} (s : Is ws c rules) where
       ∷ row 167772416 6 80 (omega arith) (omega arith) (omega arith) i
       ∷ row 167772159 6 80 (omega arith) (omega arith) (omega arith) i
       ∷ [])
-      ∙ ap (map told) (starred .lookups)
+      ∙ ap (map answerFor) (starred .lookups)
 
 -- the last line of insert's answer
 room : (c k : ℕ) → k ≤ c → _≡_ {A = ℕ} (cond (ltb c k) 6 0) 0
 room c k h = rw (le-ltb c k h)
 
-taken : (lent : List ℕ) (c : ℕ) → 40 ≤ c → c ≤ 65536 → size c ≤ length lent → Taken lent c
+taken : (lent : List ℕ) (c : ℕ) → 40 ≤ c → c ≤ 65536 → size ipv4 c ≤ length lent → WithRoom lent c
 taken lent c a b l =
     let h = started lent c (omega arith) b l in
     let s = is-fresh lent c 1 h in
@@ -103,7 +100,7 @@ taken lent c a b l =
       cells-again = counts (is-without sb 20 refl) ∙ ap (cellsOf ipv4) (starred .again) ∙ starred .cells10;
     }
 
-full : (lent : List ℕ) → size 39 ≤ length lent → Full lent
+full : (lent : List ℕ) → size ipv4 39 ≤ length lent → WithoutRoom lent
 full lent l =
     let s = is-fresh lent 39 1 (started lent 39 (omega arith) (omega arith) l) in
     record {
@@ -113,6 +110,6 @@ full lent l =
       then-10 = says (is-with s rule20 refl) rule10 ∙ starred .full-39';
     }
 
-pub bench : Starred
+pub bench : StarredCalls
 unfolding refuses rangeOf
 bench = record { taken = taken; full = full; prefix = refl; no-prefix = refl }

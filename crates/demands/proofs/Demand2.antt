@@ -1,59 +1,38 @@
 -- Demand 2 holds.
 -- Assumes nothing.
 use mathlib.Core.Path.{_≡_, refl, sym, ap, subst, _∙_}
-use mathlib.Core.Logic.{inl, inr, ⊎-elim, _↔_}
+use mathlib.Core.Logic.{_⊎_, inl, inr, ⊎-elim, _↔_, _≢_}
 use mathlib.Core.Bool.{Bool, true, false, cond, _||_}
 use mathlib.Core.List.{List, [], _∷_}
-use Prim.Native.Nat.{ℕ}
+use Prim.Native.Nat.{ℕ, _≤_}
 use native.Mathlib.Omega.{arith}
 use lib.Dec.{ltb, eqb}
+use lib.ListN.{length, getD}
 use borrow.Author.Tests.{eqb-true, eq-eqb}
 use Rattle.model.specs.Lists.{In}
-use Rattle.model.specs.Table.{Rule, Table, defaultRule, winnerOf, stands, ruleAt, readAnswer}
-use Rattle.model.specs.Ipv4.{ipv4}
+use Rattle.model.specs.Table.{Kind, Rule, Table, Shaped, defaultRule, winnerOf, packetRight, stands, ruleAt, deleteAnswer, readAnswer}
+use Rattle.model.specs.Ipv4.{ipv4, ipv4-shaped}
 use Rattle.model.proofs.Tests.{by-test, never}
+use Rattle.model.proofs.UpTo.{upTo-is}
 use Rattle.model.proofs.Keep.{in-left, in-right}
 use Rattle.model.proofs.Limits.{distinct}
-use Rattle.model.proofs.Decide.{winner-in, winner-holds, winner-least}
-use Rattle.model.proofs.Edits.{from-added, in-added, from-removed, in-removed}
+use Rattle.model.proofs.Decide.{default-cells, winner-in, winner-holds, winner-least}
+use Rattle.model.proofs.Edits.{from-added, in-added, from-removed, in-removed, delete-fewer}
 use Rattle.header.specs.declared.Packet.{Packet}
 use Rattle.header.specs.declared.Header.the-variants.{Values}
-use Rattle.header.specs.Header.{headerOf, valuesOf}
+use Rattle.header.specs.Header.{headerOf}
 use Rattle.header.specs.Facts.{WithinTops, within-tops}
-use Rattle.stored.specs.Store.{cellsIn, tableOf, readSays, readGives}
-use Rattle.lookup.specs.declared.Found.{Found}
-use Rattle.lookup.specs.Walk.{lookupPacket}
-use Rattle.demands.specs.Calls.{Passes, rulesIn, defaultIn, everyIn, Bytes, lookup}
-use Rattle.demands.proofs.Tally.{tally-same}
-use Rattle.demands.specs.Demand2.{Names, Edited, Demand2}
-use Rattle.demands.proofs.Held.{Leaves, right, checked-0, start-leaves, insert-leaves, delete-leaves}
-use Rattle.demands.proofs.Decided.{tops-right, lookup-says}
+use Rattle.ipv4.specs.declared.Rule.{Rule as Given}
+use Rattle.ipv4.specs.Rule.{five, given}
+use Rattle.layout.specs.Store.{cellsIn, tableOf, startAnswer, startWords, insertSays, insertWords, deleteSays, deleteWords, readSays, readGives, cellsGives}
+use Rattle.lookup.specs.Walk.{lookupValues, lookupPacket}
+use Rattle.demands.specs.Calls.{Passes, rulesIn, defaultIn, everyIn, fieldCount, valuesIn, Bytes, lookup}
+use Rattle.demands.specs.Demand2.{Names, Edited, Fresh, AllEnds, Demand2}
+use Rattle.demands.proofs.Held.{Leaves, right, in-use, checked-0, start-leaves, insert-leaves, delete-leaves}
 use Rattle.demands.proofs.Fields.{all-held, held-all}
-
-default-in : (ws : List ℕ) → In (defaultRule ipv4 (tableOf ipv4 ws .action)) (everyIn ws)
-default-in ws = in-right (tableOf ipv4 ws .rules) _ _ (inl refl)
-
-names : (ws : List ℕ) → Passes ws → (p : Packet) → WithinTops p → Names ws p (lookup ws p)
-names ws h p t =
-    let vs = valuesOf (Values p) in
-    let T = tableOf ipv4 ws in
-    let v = tops-right p t in
-    let w = winnerOf ipv4 T vs in
-    let e = lookup-says ws p h t in
-    record {
-      answer = ap (λ (f : Found). f .answer) e;
-      rule = w;
-      one-of = winner-in ipv4 T vs v;
-      number = ap (λ (f : Found). f .rule) e;
-      action = ap (λ (f : Found). f .action) e;
-      holds = all-held p w (winner-holds ipv4 T vs v);
-      least = λ s m k. winner-least ipv4 T vs v s m (held-all p s k);
-      only = λ s m k. distinct ipv4 T (right ws h) s w (inr m) (inr (winner-in ipv4 T vs v)) k;
-    }
-
-packet-names : (ws : List ℕ) → Passes ws → (bytes : List ℕ) → Bytes bytes → (p : Packet) → headerOf bytes ≡ Values p → WithinTops p × Names ws p (lookupPacket ws bytes)
-unfolding lookupPacket
-packet-names ws h bytes b p e = let t = within-tops bytes p b e in (t, rw e (names ws h p t))
+use Rattle.demands.proofs.Packets.{tops-right, readable-is}
+use Rattle.demands.proofs.Decided.{lookup-is}
+use Rattle.demands.proofs.Tally.{tally-same}
 
 -- the rule of a number that stands
 rule-there : (d : Rule) (n : ℕ) (rs : List Rule) → stands n rs ≡ true → In (ruleAt d n rs) rs × (ruleAt d n rs .number ≡ n)
@@ -69,45 +48,105 @@ none-there : (d : Rule) (n : ℕ) (rs : List Rule) → stands n rs ≡ false →
 none-there d n [] h = refl
 none-there d n (r ∷ rs) h = by-test (eqb (r .number) n) (λ q. never (rw q at h)) (λ q. rw q (none-there d n rs (rw q at h)))
 
-read-right : (ws : List ℕ) (n : ℕ) → readSays ipv4 ws n ≡ 0 → In (readGives ipv4 ws n) (everyIn ws) × (readGives ipv4 ws n .number ≡ n)
-read-right ws n h =
-    let t = tableOf ipv4 ws in
-    let d = defaultRule ipv4 (t .action) in
-    rw (eq-eqb (readSays ipv4 ws n) 0 h)
-    (by-test (stands n (t .rules))
-    (λ e. let z = rule-there d n (t .rules) e in (in-left (t .rules) _ _ (z .0), z .1))
-    (λ e. rw (none-there d n (t .rules) e) (default-in ws, sym (last t e (checked-0 ws (readAnswer t n) h .1)))))
+-- only the default is read that stands in no row of a rule
+only-default : (t : Table) (n : ℕ) → stands n (t .rules) ≡ false → readAnswer t n ≡ 0 → n ≡ 65535
+only-default t n e a = go (eqb n 65535) refl (ltb 65534 n) (stands n (t .rules)) e a
   where
-    last : (t : Table) → stands n (t .rules) ≡ false → readAnswer t n ≡ 0 → n ≡ 65535
-    last t e a = go (eqb n 65535) refl (ltb 65534 n) (stands n (t .rules)) e a
-      where
-        go : (b : Bool) → eqb n 65535 ≡ b → (x y : Bool) → y ≡ false → _≡_ {A = ℕ} (cond b 0 (cond x 1 (cond y 0 4))) 0 → n ≡ 65535
-        go true q x y f z = eqb-true n 65535 q
-        go false q true y f z = absurd (omega arith)
-        go false q false true f z = never f
-        go false q false false f z = absurd (omega arith)
+    go : (b : Bool) → eqb n 65535 ≡ b → (x y : Bool) → y ≡ false → _≡_ {A = ℕ} (cond b 0 (cond x 1 (cond y 0 4))) 0 → n ≡ 65535
+    go true q x y f z = eqb-true n 65535 q
+    go false q true y f z = absurd (omega arith)
+    go false q false true f z = never f
+    go false q false false f z = absurd (omega arith)
 
--- an edit that leaves the table t
-edited : {ws after : List ℕ} {c : ℕ} {t : Table} (R : Rule → Type 0) → Leaves ws after c t → c ≡ cellsIn ws → t .action ≡ defaultIn ws → ((s : Rule) → In s (t .rules) ↔ R s) → Edited ws after R
-edited R l e a h =
-    record {
-      passes = l .pass;
-      rules = λ s. subst (λ (x : Table). In s (x .rules) ↔ R s) (sym (l .table)) (h s);
-      default = ap (λ (x : Table). x .action) (l .table) ∙ a;
-      cells = l .cells ∙ e;
-    }
+module _ (k : Kind) (s : Shaped k) where
+  default-in : (ws : List ℕ) → In (defaultRule k (defaultIn k ws)) (everyIn k ws)
+  default-in ws = in-right (rulesIn k ws) _ _ (inl refl)
+
+  -- THE RULE THAT DECIDES is the right one
+  names : (ws : List ℕ) → Passes k ws → (vs : List ℕ) → packetRight k vs ≡ true → Names k ws vs (lookupValues k ws vs)
+  names ws h vs v =
+      let t = tableOf k ws in
+      let w = winnerOf k t vs in
+      rw (lookup-is k s ws h vs v)
+      (record {
+        answer = refl;
+        rule = w;
+        one-of = winner-in k t vs v;
+        number = refl;
+        action = refl;
+        holds = all-held k vs w (winner-holds k t vs v);
+        least = λ r m a. winner-least k t vs v r m (held-all k vs r a);
+        only = λ r m e. distinct k t (right k s ws h) r w (inr m) (inr (winner-in k t vs v)) e;
+      })
+
+  -- AN EDIT that leaves the table t
+  edited : {ws after : List ℕ} {c : ℕ} {t : Table} (R : Rule → Type 0) → Leaves k ws after c t → c ≡ cellsIn ws → t .action ≡ defaultIn k ws → ((r : Rule) → In r (t .rules) ↔ R r) → Edited k ws after R
+  edited R l e a h =
+      record {
+        passes = l .pass;
+        rules = λ r. subst (λ (x : Table). In r (x .rules) ↔ R r) (sym (l .table)) (h r);
+        default = ap (λ (x : Table). x .action) (l .table) ∙ a;
+        cells = l .cells-left ∙ e;
+      }
+
+  inserted : (ws : List ℕ) (r : Rule) → insertSays k ws r ≡ 0 → Edited k ws (insertWords k ws r) (λ x. (x ≡ r) ⊎ In x (rulesIn k ws))
+  inserted ws r h = edited _ (insert-leaves k s ws r h) refl refl (λ x. (from-added r x (rulesIn k ws), in-added r x (rulesIn k ws)))
+
+  deleted : (ws : List ℕ) (n : ℕ) → deleteSays k ws n ≡ 0 → Edited k ws (deleteWords k ws n) (λ x. In x (rulesIn k ws) × (x .number ≢ n))
+  deleted ws n h = edited _ (delete-leaves k s ws n h) refl refl (λ x. (from-removed n (rulesIn k ws) x, λ m. in-removed n (rulesIn k ws) x (m .0) (m .1)))
+
+  started : (ws : List ℕ) (c a : ℕ) → startAnswer k ws c ≡ 0 → Fresh k c a (startWords k ws c a)
+  started ws c a h =
+      let l = start-leaves k s ws c a h in
+      record { passes = l .pass; rules = ap (λ (x : Table). x .rules) (l .table); default = ap (λ (x : Table). x .action) (l .table); cells = l .cells-left }
+
+  started-cells : (ws : List ℕ) (c a : ℕ) → startAnswer k ws c ≡ 0 → cellsGives k (startWords k ws c a) ≡ fieldCount k
+  started-cells ws c a h = let l = start-leaves k s ws c a h in in-use k s (startWords k ws c a) _ (l .pass) (l .table) ∙ default-cells k a
+
+  deleted-cells : (ws : List ℕ) (n : ℕ) → deleteSays k ws n ≡ 0 → cellsGives k (deleteWords k ws n) ≤ cellsGives k ws
+  deleted-cells ws n h =
+      let t = tableOf k ws in
+      let l = delete-leaves k s ws n h in
+      omega (arith, in-use k s (deleteWords k ws n) _ (l .pass) (l .table), in-use k s ws t (checked-0 k s ws (deleteAnswer t n) h .0) refl, delete-fewer k n t)
+
+  read-right : (ws : List ℕ) (n : ℕ) → readSays k ws n ≡ 0 → In (readGives k ws n) (everyIn k ws) × (readGives k ws n .number ≡ n)
+  read-right ws n h =
+      let t = tableOf k ws in
+      let d = defaultRule k (t .action) in
+      rw (eq-eqb (readSays k ws n) 0 h)
+      (by-test (stands n (t .rules))
+      (λ e. let z = rule-there d n (t .rules) e in (in-left (t .rules) _ _ (z .0), z .1))
+      (λ e. rw (none-there d n (t .rules) e) (default-in ws, sym (only-default t n e (checked-0 k s ws (readAnswer t n) h .1)))))
+
+-- THE LIBRARY'S RULES as structs: five numbers are read of each array, which has no more
+five-one : (xs ys : List ℕ) → length xs ≡ fieldCount ipv4 → length ys ≡ fieldCount ipv4 → five xs ≡ five ys → xs ≡ ys
+five-one xs ys l m e = upTo-is 0 xs (fieldCount ipv4) (λ i. getD xs i 0) l (λ i h. refl) ∙ e ∙ sym (upTo-is 0 ys (fieldCount ipv4) (λ i. getD ys i 0) m (λ i h. refl))
+
+one-struct : (g h : Given) → AllEnds ipv4 g → AllEnds ipv4 h → given g ≡ given h → g ≡ h
+one-struct g h a b e =
+    let x = five-one (g .low) (h .low) (a .lows) (b .lows) (ap (λ (r : Rule). r .lows) e) in
+    let y = five-one (g .high) (h .high) (a .highs) (b .highs) (ap (λ (r : Rule). r .highs) e) in
+    λ i. record { number = e i .number; action = e i .action; low = x i; high = y i }
+
+-- THE LIBRARY'S LOOKUPS
+record-names : (ws : List ℕ) → Passes ipv4 ws → (p : Packet) → WithinTops p → Names ipv4 ws (valuesIn p) (lookup ws p)
+record-names ws h p t = names ipv4 ipv4-shaped ws h (valuesIn p) (tops-right p t)
+
+packet-names : (ws : List ℕ) → Passes ipv4 ws → (bytes : List ℕ) → Bytes bytes → (p : Packet) → headerOf bytes ≡ Values p → WithinTops p × Names ipv4 ws (valuesIn p) (lookupPacket ws bytes)
+packet-names ws h bytes b p e = let t = within-tops bytes p b e in (t, rw (readable-is ws bytes p e) (record-names ws h p t))
 
 pub demand2 : Demand2
 demand2 =
     record {
-      by-values = names;
+      by-values = record-names;
       by-packet = packet-names;
       by-tally = λ ws h bytes b p e t. ⊎-elim inl (λ q. inr (rw q (packet-names ws h bytes b p e .1))) (tally-same ws bytes t);
-      default = default-in;
-      insert = λ ws r h. edited _ (insert-leaves ws r h) refl refl (λ s. (from-added r s (rulesIn ws), in-added r s (rulesIn ws)));
-      delete = λ ws n h. edited _ (delete-leaves ws n h) refl refl (λ s. (from-removed n (rulesIn ws) s, λ m. in-removed n (rulesIn ws) s (m .0) (m .1)));
-      start = λ ws c a h.
-          let l = start-leaves ws c a h in
-          record { passes = l .pass; rules = ap (λ (x : Table). x .rules) (l .table); default = ap (λ (x : Table). x .action) (l .table); cells = l .cells };
-      read = read-right;
+      default = default-in ipv4 ipv4-shaped;
+      insert = inserted ipv4 ipv4-shaped;
+      delete = deleted ipv4 ipv4-shaped;
+      start = started ipv4 ipv4-shaped;
+      start-cells = started-cells ipv4 ipv4-shaped;
+      delete-cells = deleted-cells ipv4 ipv4-shaped;
+      read = read-right ipv4 ipv4-shaped;
+      read-one = one-struct;
     }

@@ -1,10 +1,11 @@
 -- What this crate shows: each page of specs/ that claims something, with its proof.
 -- Assumes nothing.
+use Rattle.model.specs.Ipv4.{ipv4, ipv4-shaped}
 use Rattle.demands.specs.Demand1.{Demand1}
 use Rattle.demands.specs.Demand2.{Demand2}
 use Rattle.demands.specs.Demand3.{Demand3}
 use Rattle.demands.specs.Check.{Check}
-use Rattle.demands.specs.Bench.{Starred}
+use Rattle.demands.specs.Bench.{StarredCalls}
 use Rattle.demands.specs.Tally.{Tallied}
 use Rattle.demands.specs.Scan.{Scan}
 use Rattle.demands.proofs.Demand1.{demand1}
@@ -12,8 +13,8 @@ use Rattle.demands.proofs.Demand2.{demand2}
 use Rattle.demands.proofs.Demand3.{demand3}
 use Rattle.demands.proofs.Check.{check}
 use Rattle.demands.proofs.Bench.{bench}
-use Rattle.demands.proofs.Tally.{tallied}
+use Rattle.demands.proofs.Tallied.{tallied}
 use Rattle.demands.proofs.Scan.{scanned}
 
-pub shown : Demand1 × Demand2 × Demand3 × Check × Starred × Tallied × Scan
-shown = (demand1, demand2, demand3, check, bench, tallied, scanned)
+pub shown : Demand1 × Demand2 × Demand3 × Check ipv4 × StarredCalls × Tallied × Scan
+shown = (demand1, demand2, demand3, check ipv4 ipv4-shaped, bench, tallied, scanned)

@@ -7,66 +7,66 @@ use lib.ListN.{length, getD}
 use Rattle.model.specs.Bench.{rule10, rule20, Row, rows}
 use Rattle.model.specs.Ipv4.{ipv4}
 use Rattle.header.specs.declared.Packet.{Packet}
-use Rattle.stored.specs.Store.{size, startAnswer, startWords, insertSays, insertWords, deleteSays, deleteWords, cellsGives}
+use Rattle.layout.specs.Store.{size, startAnswer, startWords, insertSays, insertWords, deleteSays, deleteWords, cellsGives}
 use Rattle.prefix.specs.Prefix.{rangeOf}
 use Rattle.lookup.specs.declared.Found.{Found}
 use Rattle.demands.specs.Calls.{lookup}
 
 -- the words of a store of c cells over the words lent: "Default action 1"; with rule 10, with rule 20, with both in either order, and "after rule 20 goes again"
 module _ (lent : List ℕ) (c : ℕ) where
-  abbrev pub fresh : List ℕ
-  fresh = startWords ipv4 lent c 1
+  abbrev pub wordsFresh : List ℕ
+  wordsFresh = startWords ipv4 lent c 1
 
-  abbrev pub with10 : List ℕ
-  with10 = insertWords ipv4 fresh rule10
+  abbrev pub words10 : List ℕ
+  words10 = insertWords ipv4 wordsFresh rule10
 
-  abbrev pub with20 : List ℕ
-  with20 = insertWords ipv4 fresh rule20
+  abbrev pub words20 : List ℕ
+  words20 = insertWords ipv4 wordsFresh rule20
 
-  abbrev pub both : List ℕ
-  both = insertWords ipv4 with10 rule20
+  abbrev pub wordsBoth : List ℕ
+  wordsBoth = insertWords ipv4 words10 rule20
 
-  abbrev pub both' : List ℕ
-  both' = insertWords ipv4 with20 rule10
+  abbrev pub wordsBoth' : List ℕ
+  wordsBoth' = insertWords ipv4 words20 rule10
 
-  abbrev pub again : List ℕ
-  again = deleteWords ipv4 both 20
+  abbrev pub wordsAgain : List ℕ
+  wordsAgain = deleteWords ipv4 wordsBoth 20
 
 -- the five values of a row as a packet's record, and what a lookup of them is to answer: 0, and the row's rule, action and reads
-abbrev pub packetOf : List ℕ → Packet
-packetOf vs = record { destination = getD vs 0 0; source = getD vs 1 0; protocol = getD vs 2 0; «destination_port» = getD vs 3 0; «source_port» = getD vs 4 0 }
+abbrev pub asPacket : List ℕ → Packet
+asPacket vs = record { destination = getD vs 0 0; source = getD vs 1 0; protocol = getD vs 2 0; «destination_port» = getD vs 3 0; «source_port» = getD vs 4 0 }
 
-abbrev pub told : Row → Found
-told r = record { answer = 0; rule = r .rule; action = r .action; reads = r .reads }
+abbrev pub answerFor : Row → Found
+answerFor r = record { answer = 0; rule = r .rule; action = r .action; reads = r .reads }
 
 -- with 40 cells or more
-pub record Taken (lent : List ℕ) (c : ℕ) : Type 0 where
+pub record WithRoom (lent : List ℕ) (c : ℕ) : Type 0 where
   -- the calls are taken, "with 40 it is taken", in whichever order
   pub start : startAnswer ipv4 lent c ≡ 0
-  pub first-10 : insertSays ipv4 (fresh lent c) rule10 ≡ 0
-  pub first-20 : insertSays ipv4 (fresh lent c) rule20 ≡ 0
-  pub then-20 : insertSays ipv4 (with10 lent c) rule20 ≡ 0
-  pub then-10 : insertSays ipv4 (with20 lent c) rule10 ≡ 0
-  pub goes : deleteSays ipv4 (both lent c) 20 ≡ 0
+  pub first-10 : insertSays ipv4 (wordsFresh lent c) rule10 ≡ 0
+  pub first-20 : insertSays ipv4 (wordsFresh lent c) rule20 ≡ 0
+  pub then-20 : insertSays ipv4 (words10 lent c) rule20 ≡ 0
+  pub then-10 : insertSays ipv4 (words20 lent c) rule10 ≡ 0
+  pub goes : deleteSays ipv4 (wordsBoth lent c) 20 ≡ 0
   -- the seven lookups, row by row
-  pub lookups : map (λ r. lookup (both lent c) (packetOf (r .asked))) rows ≡ map told rows
+  pub lookups : map (λ r. lookup (wordsBoth lent c) (asPacket (r .asked))) rows ≡ map answerFor rows
   -- "Cells: rule 20 alone 15; rule 10 alone 25; both 40, in whichever order they came; after rule 20 goes again, 25"
-  pub cells-20 : cellsGives ipv4 (with20 lent c) ≡ 15
-  pub cells-10 : cellsGives ipv4 (with10 lent c) ≡ 25
-  pub cells-both : cellsGives ipv4 (both lent c) ≡ 40
-  pub cells-both' : cellsGives ipv4 (both' lent c) ≡ 40
-  pub cells-again : cellsGives ipv4 (again lent c) ≡ 25
+  pub cells-20 : cellsGives ipv4 (words20 lent c) ≡ 15
+  pub cells-10 : cellsGives ipv4 (words10 lent c) ≡ 25
+  pub cells-both : cellsGives ipv4 (wordsBoth lent c) ≡ 40
+  pub cells-both' : cellsGives ipv4 (wordsBoth' lent c) ≡ 40
+  pub cells-again : cellsGives ipv4 (wordsAgain lent c) ≡ 25
 
 -- "With c = 39 the second insert gets 6", in whichever order
-pub record Full (lent : List ℕ) : Type 0 where
-  pub first-10 : insertSays ipv4 (fresh lent 39) rule10 ≡ 0
-  pub first-20 : insertSays ipv4 (fresh lent 39) rule20 ≡ 0
-  pub then-20 : insertSays ipv4 (with10 lent 39) rule20 ≡ 6
-  pub then-10 : insertSays ipv4 (with20 lent 39) rule10 ≡ 6
+pub record WithoutRoom (lent : List ℕ) : Type 0 where
+  pub first-10 : insertSays ipv4 (wordsFresh lent 39) rule10 ≡ 0
+  pub first-20 : insertSays ipv4 (wordsFresh lent 39) rule20 ≡ 0
+  pub then-20 : insertSays ipv4 (words10 lent 39) rule20 ≡ 6
+  pub then-10 : insertSays ipv4 (words20 lent 39) rule10 ≡ 6
 
-pub record Starred : Type 0 where
-  pub taken : (lent : List ℕ) (c : ℕ) → 40 ≤ c → c ≤ 65536 → size c ≤ length lent → Taken lent c
-  pub full : (lent : List ℕ) → size 39 ≤ length lent → Full lent
+pub record StarredCalls : Type 0 where
+  pub taken : (lent : List ℕ) (c : ℕ) → 40 ≤ c → c ≤ 65536 → size ipv4 c ≤ length lent → WithRoom lent c
+  pub full : (lent : List ℕ) → size ipv4 39 ≤ length lent → WithoutRoom lent
   -- "Prefix 10.0.0.0 of length 24 gives 167,772,160 to 167,772,415; 10.0.0.1 of length 24 gets 10"
   pub prefix : rangeOf 167772160 24 ≡ record { answer = 0; low = 167772160; high = 167772415 }
   pub no-prefix : rangeOf 167772161 24 ≡ record { answer = 10; low = 0; high = 0 }

@@ -4,63 +4,76 @@ use mathlib.Core.Path.{_≡_}
 use mathlib.Core.Logic.{_⊎_, _↔_, _≢_}
 use mathlib.Core.List.{List, []}
 use Prim.Native.Nat.{ℕ, _≤_}
+use lib.ListN.{length}
 use Rattle.model.specs.Lists.{In}
-use Rattle.model.specs.Table.{Rule, defaultRule}
+use Rattle.model.specs.Table.{Kind, Rule, defaultRule}
 use Rattle.model.specs.Ipv4.{ipv4}
 use Rattle.header.specs.declared.Packet.{Packet}
 use Rattle.header.specs.declared.Header.the-variants.{Values}
 use Rattle.header.specs.Header.{headerOf}
 use Rattle.header.specs.Facts.{WithinTops}
-use Rattle.stored.specs.Store.{cellsIn, startAnswer, startWords, insertSays, insertWords, deleteSays, deleteWords, readSays, readGives}
+use Rattle.ipv4.specs.declared.Rule.{Rule as Given}
+use Rattle.ipv4.specs.Rule.{given}
+use Rattle.layout.specs.Store.{cellsIn, startAnswer, startWords, insertSays, insertWords, deleteSays, deleteWords, readSays, readGives, cellsGives}
 use Rattle.lookup.specs.declared.Found.{Found}
 use Rattle.lookup.specs.Walk.{lookupPacket}
 use Rattle.tally.specs.declared.Tallies.{Tallies}
 use Rattle.tally.specs.Tally.{tallyAnswer}
-use Rattle.demands.specs.Calls.{Passes, rulesIn, defaultIn, everyIn, Holds, Bytes, lookup}
+use Rattle.demands.specs.Calls.{Passes, rulesIn, defaultIn, everyIn, fieldCount, HoldsAll, valuesIn, Bytes, lookup}
 
--- the lookup of the packet p in the words ws names the right rule
-pub record Names (ws : List ℕ) (p : Packet) (found : Found) : Type 0 where
+-- the lookup of the values vs in the words ws names the right rule
+pub record Names (k : Kind) (ws vs : List ℕ) (found : Found) : Type 0 where
   pub answer : found .answer ≡ 0
   -- there is a rule, of the store's or the default, whose number and action the answer gives
   pub rule : Rule
-  pub one-of : In rule (everyIn ws)
+  pub one-of : In rule (everyIn k ws)
   pub number : found .rule ≡ rule .number
   pub action : found .action ≡ rule .action
-  -- its five ranges hold the packet's five values
-  pub holds : Holds 5 p rule
+  -- its ranges hold the packet's values
+  pub holds : HoldsAll k vs rule
   -- and no rule that holds them has a lesser number
-  pub least : (s : Rule) → In s (everyIn ws) → Holds 5 p s → rule .number ≤ s .number
+  pub least : (s : Rule) → In s (everyIn k ws) → HoldsAll k vs s → rule .number ≤ s .number
   -- no other rule of the store has its number
-  pub only : (s : Rule) → In s (everyIn ws) → s .number ≡ rule .number → s ≡ rule
+  pub only : (s : Rule) → In s (everyIn k ws) → s .number ≡ rule .number → s ≡ rule
 
 -- an accepted edit left the words after: a store that passes, with just the rules that R says, and the default and the number of cells as they were
-pub record Edited (before after : List ℕ) (R : Rule → Type 0) : Type 0 where
-  pub passes : Passes after
-  pub rules : (s : Rule) → In s (rulesIn after) ↔ R s
-  pub default : defaultIn after ≡ defaultIn before
+pub record Edited (k : Kind) (before after : List ℕ) (R : Rule → Type 0) : Type 0 where
+  pub passes : Passes k after
+  pub rules : (s : Rule) → In s (rulesIn k after) ↔ R s
+  pub default : defaultIn k after ≡ defaultIn k before
   pub cells : cellsIn after ≡ cellsIn before
 
 -- an accepted start left the words after: a store of c cells that passes, with the default alone
-pub record Fresh (c a : ℕ) (after : List ℕ) : Type 0 where
-  pub passes : Passes after
-  pub rules : rulesIn after ≡ []
-  pub default : defaultIn after ≡ a
+pub record Fresh (k : Kind) (c a : ℕ) (after : List ℕ) : Type 0 where
+  pub passes : Passes k after
+  pub rules : rulesIn k after ≡ []
+  pub default : defaultIn k after ≡ a
   pub cells : cellsIn after ≡ c
+
+-- the arrays of a rule's struct have an end for each field
+pub record AllEnds (k : Kind) (g : Given) : Type 0 where
+  pub lows : length (g .low) ≡ fieldCount k
+  pub highs : length (g .high) ≡ fieldCount k
 
 pub record Demand2 : Type 0 where
   -- the lookup by values, none above its top
-  pub by-values : (ws : List ℕ) → Passes ws → (p : Packet) → WithinTops p → Names ws p (lookup ws p)
+  pub by-values : (ws : List ℕ) → Passes ipv4 ws → (p : Packet) → WithinTops p → Names ipv4 ws (valuesIn p) (lookup ws p)
   -- the lookup by a packet whose header gives the values p: `headerOf` of header/specs/Header.antt says where the RFCs put each. They are never above their tops.
-  pub by-packet : (ws : List ℕ) → Passes ws → (bytes : List ℕ) → Bytes bytes → (p : Packet) → headerOf bytes ≡ Values p → WithinTops p × Names ws p (lookupPacket ws bytes)
+  pub by-packet : (ws : List ℕ) → Passes ipv4 ws → (bytes : List ℕ) → Bytes bytes → (p : Packet) → headerOf bytes ≡ Values p → WithinTops p × Names ipv4 ws (valuesIn p) (lookupPacket ws bytes)
   -- the lookup with tallies, whatever the record holds: "Demand 2 excepts a lookup refused with 13"
-  pub by-tally : (ws : List ℕ) → Passes ws → (bytes : List ℕ) → Bytes bytes → (p : Packet) → headerOf bytes ≡ Values p → (t : Tallies) → (tallyAnswer ws bytes t .answer ≡ 13) ⊎ Names ws p (tallyAnswer ws bytes t)
+  pub by-tally : (ws : List ℕ) → Passes ipv4 ws → (bytes : List ℕ) → Bytes bytes → (p : Packet) → headerOf bytes ≡ Values p → (t : Tallies) → (tallyAnswer ws bytes t .answer ≡ 13) ⊎ Names ipv4 ws (valuesIn p) (tallyAnswer ws bytes t)
   -- "The default rule has number 65,535 and full ranges": it is always there
-  pub default : (ws : List ℕ) → In (defaultRule ipv4 (defaultIn ws)) (everyIn ws)
+  pub default : (ws : List ℕ) → In (defaultRule ipv4 (defaultIn ipv4 ws)) (everyIn ipv4 ws)
   -- "An accepted insert adds that rule, [..] and every other rule stays"
-  pub insert : (ws : List ℕ) (r : Rule) → insertSays ipv4 ws r ≡ 0 → Edited ws (insertWords ipv4 ws r) (λ s. (s ≡ r) ⊎ In s (rulesIn ws))
+  pub insert : (ws : List ℕ) (r : Rule) → insertSays ipv4 ws r ≡ 0 → Edited ipv4 ws (insertWords ipv4 ws r) (λ s. (s ≡ r) ⊎ In s (rulesIn ipv4 ws))
   -- "an accepted delete takes it out, and every other rule stays"
-  pub delete : (ws : List ℕ) (n : ℕ) → deleteSays ipv4 ws n ≡ 0 → Edited ws (deleteWords ipv4 ws n) (λ s. In s (rulesIn ws) × (s .number ≢ n))
+  pub delete : (ws : List ℕ) (n : ℕ) → deleteSays ipv4 ws n ≡ 0 → Edited ipv4 ws (deleteWords ipv4 ws n) (λ s. In s (rulesIn ipv4 ws) × (s .number ≢ n))
   -- what all edits begin with
-  pub start : (ws : List ℕ) (c a : ℕ) → startAnswer ipv4 ws c ≡ 0 → Fresh c a (startWords ipv4 ws c a)
+  pub start : (ws : List ℕ) (c a : ℕ) → startAnswer ipv4 ws c ≡ 0 → Fresh ipv4 c a (startWords ipv4 ws c a)
+  -- "The default alone takes 5 cells", one for each field. "Deleting never needs more cells than before."
+  pub start-cells : (ws : List ℕ) (c a : ℕ) → startAnswer ipv4 ws c ≡ 0 → cellsGives ipv4 (startWords ipv4 ws c a) ≡ fieldCount ipv4
+  pub delete-cells : (ws : List ℕ) (n : ℕ) → deleteSays ipv4 ws n ≡ 0 → cellsGives ipv4 (deleteWords ipv4 ws n) ≤ cellsGives ipv4 ws
   -- and a rule that is read is the store's rule of that number
-  pub read : (ws : List ℕ) (n : ℕ) → readSays ipv4 ws n ≡ 0 → In (readGives ipv4 ws n) (everyIn ws) × (readGives ipv4 ws n .number ≡ n)
+  pub read : (ws : List ℕ) (n : ℕ) → readSays ipv4 ws n ≡ 0 → In (readGives ipv4 ws n) (everyIn ipv4 ws) × (readGives ipv4 ws n .number ≡ n)
+  -- A caller gets it as a struct with two arrays of five ends, of which the promise says what rule it is: no second such struct is the same rule
+  pub read-one : (g h : Given) → AllEnds ipv4 g → AllEnds ipv4 h → given g ≡ given h → g ≡ h

@@ -5,53 +5,53 @@ use mathlib.Core.Logic.{_⊎_, _↔_}
 use mathlib.Core.List.{List, [], _∷_}
 use Prim.Native.Nat.{ℕ, _+_, _*_, _≤_, _<_}
 use lib.ListN.{length, take}
-use Rattle.model.specs.Lists.{In, Same, Rising}
-use Rattle.model.specs.Table.{Rule}
+use Rattle.model.specs.Lists.{In, Same, Rising, sum, upTo}
+use Rattle.model.specs.Table.{Kind, Rule}
 use Rattle.model.specs.Ipv4.{ipv4}
 use Rattle.header.specs.declared.Packet.{Packet}
 use Rattle.header.specs.declared.Header.the-variants.{Values}
 use Rattle.header.specs.Header.{headerOf}
 use Rattle.header.specs.Facts.{WithinTops}
-use Rattle.stored.specs.Store.{size, cellsIn, startAnswer, startWords, insertWords, deleteWords, cellsSays, cellsGives}
+use Rattle.layout.specs.Store.{size, cellsIn, startAnswer, startWords, insertWords, deleteWords, cellsSays, cellsGives}
 use Rattle.lookup.specs.Walk.{lookupPacket}
 use Rattle.tally.specs.declared.Tallies.{Tallies}
 use Rattle.tally.specs.Tally.{tallyAnswer, talliesLeft}
-use Rattle.demands.specs.Calls.{Passes, rulesIn, defaultIn, everyIn, value, low, high, Holds, Bytes, lookup}
+use Rattle.demands.specs.Calls.{Passes, rulesIn, defaultIn, everyIn, fieldCount, valueAt, lowAt, highAt, HoldsFirst, valuesIn, Bytes, lookup}
 
 -- AN EDIT, and the words that it leaves, accepted or refused; a run of edits
 pub data Edit : Type 0 where
-  insert : Rule → Edit
-  delete : ℕ → Edit
+  inserts : Rule → Edit
+  deletes : ℕ → Edit
 
-abbrev pub edited : List ℕ → Edit → List ℕ
-edited ws (insert r) = insertWords ipv4 ws r
-edited ws (delete n) = deleteWords ipv4 ws n
+abbrev pub wordsAfter : Kind → List ℕ → Edit → List ℕ
+wordsAfter k ws (inserts r) = insertWords k ws r
+wordsAfter k ws (deletes n) = deleteWords k ws n
 
-abbrev pub run : List ℕ → List Edit → List ℕ
-run ws [] = ws
-run ws (e ∷ es) = run (edited ws e) es
+abbrev pub run : Kind → List ℕ → List Edit → List ℕ
+run k ws [] = ws
+run k ws (e ∷ es) = run k (wordsAfter k ws e) es
 
 -- "a fresh store" and a run of edits on it
-pub record History : Type 0 where
+pub record History (k : Kind) : Type 0 where
   -- the words that the start was lent, whatever stood in them; the number of cells and the default's action that it was given
   pub lent : List ℕ
   pub cells : ℕ
   pub action : ℕ
-  pub started : startAnswer ipv4 lent cells ≡ 0
+  pub accepted : startAnswer k lent cells ≡ 0
   -- the edits, "refused ones among them"
   pub edits : List Edit
 
 -- the words that it leaves
-abbrev pub words : History → List ℕ
-words h = run (startWords ipv4 (h .lent) (h .cells) (h .action)) (h .edits)
+abbrev pub wordsLeft : (k : Kind) → History k → List ℕ
+wordsLeft k h = run k (startWords k (h .lent) (h .cells) (h .action)) (h .edits)
 
 -- "that leave the same rules and the same default": the same set of rules, in whatever order they came
-pub record SameRules (g h : History) : Type 0 where
-  pub rules : Same (rulesIn (words g)) (rulesIn (words h))
-  pub default : defaultIn (words g) ≡ defaultIn (words h)
+pub record SameRules (k : Kind) (g h : History k) : Type 0 where
+  pub rules : Same (rulesIn k (wordsLeft k g)) (rulesIn k (wordsLeft k h))
+  pub default : defaultIn k (wordsLeft k g) ≡ defaultIn k (wordsLeft k h)
 
 -- two stores that no call by values or by a packet tells apart, with as many cells in use
-pub record Alike (ws vs : List ℕ) : Type 0 where
+pub record Twins (ws vs : List ℕ) : Type 0 where
   -- the answer, the rule, the action and the count of reads
   pub by-values : (p : Packet) → lookup ws p ≡ lookup vs p
   pub by-packet : (bytes : List ℕ) → lookupPacket ws bytes ≡ lookupPacket vs bytes
@@ -62,36 +62,36 @@ pub record Alike (ws vs : List ℕ) : Type 0 where
   pub cells : cellsGives ipv4 ws ≡ cellsGives ipv4 vs
 
 -- "The ends of a rule in a field are its high end and, if its low end is above 0, the low end less 1."
-abbrev pub End : Rule → ℕ → ℕ → Type 0
-End r i e = (e ≡ high r i) ⊎ (e + 1 ≡ low r i)
+abbrev pub EndOf : Rule → ℕ → ℕ → Type 0
+EndOf r i e = (e ≡ highAt r i) ⊎ (e + 1 ≡ lowAt r i)
 
 -- e is, in field i, one of the "ends [..] below the packet's value, taken over the rules that hold its earlier values"
-abbrev pub Counted : List Rule → Packet → ℕ → ℕ → Type 0
-Counted rules p i e = (e < value p i) × ((r : Rule) × In r rules × Holds i p r × End r i e)
+abbrev pub CountedEnd : List Rule → List ℕ → ℕ → ℕ → Type 0
+CountedEnd rules vs i e = (e < valueAt vs i) × ((r : Rule) × In r rules × HoldsFirst i vs r × EndOf r i e)
 
--- the count of reads for the packet p over these rules
-pub record Reads (rules : List Rule) (p : Packet) (reads : ℕ) : Type 0 where
+-- the count of reads for the values vs over these rules
+pub record Reads (k : Kind) (rules : List Rule) (vs : List ℕ) (reads : ℕ) : Type 0 where
   -- for each field a list of these ends: all of them, nothing else, and each once, since the list rises
   pub ends : ℕ → List ℕ
-  pub counted : (i : ℕ) → i < 5 → (e : ℕ) → In e (ends i) ↔ Counted rules p i e
-  pub distinct : (i : ℕ) → i < 5 → Rising (ends i)
+  pub counted : (i : ℕ) → i < fieldCount k → (e : ℕ) → In e (ends i) ↔ CountedEnd rules vs i e
+  pub distinct : (i : ℕ) → i < fieldCount k → Rising (ends i)
   -- "summed over the fields, one plus the distinct ends"
-  pub sum : reads ≡ (1 + length (ends 0)) + (1 + length (ends 1)) + (1 + length (ends 2)) + (1 + length (ends 3)) + (1 + length (ends 4))
+  pub summed : reads ≡ sum (upTo (fieldCount k) (λ i. 1 + length (ends i)))
 
 pub record Demand3 : Type 0 where
   -- "Every packet then gets the same answer and the same count of reads from both, and both use the same number of cells"
-  pub alike : (g h : History) → SameRules g h → Alike (words g) (words h)
+  pub alike : (g h : History ipv4) → SameRules ipv4 g h → Twins (wordsLeft ipv4 g) (wordsLeft ipv4 h)
   -- more than is asked: where the two have one number of cells, they are the same store, word for word
-  pub same-words : (g h : History) → SameRules g h → g .cells ≡ h .cells → take (size (g .cells)) (words g) ≡ take (size (h .cells)) (words h)
+  pub same-words : (g h : History ipv4) → SameRules ipv4 g h → g .cells ≡ h .cells → take (size ipv4 (g .cells)) (wordsLeft ipv4 g) ≡ take (size ipv4 (h .cells)) (wordsLeft ipv4 h)
   -- "Every store left by an accepted start or edit passes", so that demand 2 and the count below hold of it; its number of cells is that of its start
-  pub passes : (g : History) → Passes (words g) × (cellsIn (words g) ≡ g .cells)
+  pub passes : (g : History ipv4) → Passes ipv4 (wordsLeft ipv4 g) × (cellsIn (wordsLeft ipv4 g) ≡ g .cells)
   -- "The count is, ..", over the store's rules, "the default's ends included"
-  pub count : (ws : List ℕ) → Passes ws → (p : Packet) → WithinTops p → Reads (everyIn ws) p (lookup ws p .reads)
-  pub count-packet : (ws : List ℕ) → Passes ws → (bytes : List ℕ) → Bytes bytes → (p : Packet) → headerOf bytes ≡ Values p → Reads (everyIn ws) p (lookupPacket ws bytes .reads)
+  pub count : (ws : List ℕ) → Passes ipv4 ws → (p : Packet) → WithinTops p → Reads ipv4 (everyIn ipv4 ws) (valuesIn p) (lookup ws p .reads)
+  pub count-packet : (ws : List ℕ) → Passes ipv4 ws → (bytes : List ℕ) → Bytes bytes → (p : Packet) → headerOf bytes ≡ Values p → Reads ipv4 (everyIn ipv4 ws) (valuesIn p) (lookupPacket ws bytes .reads)
   -- with tallies, "its sum where neither is refused"
-  pub count-tally : (ws : List ℕ) → Passes ws → (bytes : List ℕ) → Bytes bytes → (p : Packet) → headerOf bytes ≡ Values p → (t : Tallies) → tallyAnswer ws bytes t .answer ≡ 0 → Reads (everyIn ws) p (tallyAnswer ws bytes t .reads)
+  pub count-tally : (ws : List ℕ) → Passes ipv4 ws → (bytes : List ℕ) → Bytes bytes → (p : Packet) → headerOf bytes ≡ Values p → (t : Tallies) → tallyAnswer ws bytes t .answer ≡ 0 → Reads ipv4 (everyIn ipv4 ws) (valuesIn p) (tallyAnswer ws bytes t .reads)
   -- "With n rules besides the default it is at most 2 × n + 1 in each field", and so in all: a bound for the sheet
-  pub most-each : (ws : List ℕ) (h : Passes ws) (p : Packet) (t : WithinTops p) → (i : ℕ) → i < 5 → 1 + length (count ws h p t .ends i) ≤ 2 * length (rulesIn ws) + 1
-  pub most : (ws : List ℕ) → Passes ws → (p : Packet) → WithinTops p → lookup ws p .reads ≤ 5 * (2 * length (rulesIn ws) + 1)
+  pub most-each : (ws : List ℕ) (h : Passes ipv4 ws) (p : Packet) (t : WithinTops p) → (i : ℕ) → i < fieldCount ipv4 → 1 + length (count ws h p t .ends i) ≤ 2 * length (rulesIn ipv4 ws) + 1
+  pub most : (ws : List ℕ) → Passes ipv4 ws → (p : Packet) → WithinTops p → lookup ws p .reads ≤ fieldCount ipv4 * (2 * length (rulesIn ipv4 ws) + 1)
   -- and a tighter one: a rule that is kept adds at most one end in a field, and one that is dropped at most two, once
-  pub tight : (ws : List ℕ) → Passes ws → (p : Packet) → WithinTops p → lookup ws p .reads ≤ 6 * length (rulesIn ws) + 5
+  pub tight : (ws : List ℕ) → Passes ipv4 ws → (p : Packet) → WithinTops p → lookup ws p .reads ≤ (fieldCount ipv4 + 1) * length (rulesIn ipv4 ws) + fieldCount ipv4

@@ -1,5 +1,6 @@
--- To be read in this order: what the demands speak of, the three demands, what the store check says, document 01's starred list, the tallies of request P1, and the scan of request P2.
+-- To be read in this order: what the demands speak of, a store by its links and why a lookup answers 9, the three demands, what the store check says, document 01's starred list, the tallies of request P1, and the scan of request P2.
 pub mod Calls
+pub mod Links
 pub mod Demand1
 pub mod Demand2
 pub mod Demand3

@@ -1,24 +1,27 @@
 -- The steps of a walk, as the code takes them: what the definitions say at each way on, and that a field reads no more cells than it may.
 -- Assumes nothing.
 use mathlib.Core.Path.{_≡_, refl, sym, ap, _∙_}
-use mathlib.Core.Bool.{Bool, true, false, cond}
+use mathlib.Core.Bool.{Bool, true, false, cond, not}
 use mathlib.Core.List.{List, [], _∷_}
 use Prim.Native.Nat.{ℕ, zero, suc, _+_, _-_, _*_, _≤_, _<_}
 use native.Mathlib.Omega.{arith}
 use native.Mathlib.Nat.{add-zero}
 use native.Mathlib.Numerals.{add-one}
-use lib.Dec.{ltb}
-use lib.ListN.{length, getD, take, drop, drop-of-length-le, List·getD-eq-default}
+use lib.Dec.{ltb, leb, eqb}
+use lib.ListN.{length, getD, take, drop, drop-of-length-le}
 use lib.Seq.{drop-cons}
-use borrow.Author.Tests.{lt-ltb, le-ltb, le-leb, lt-leb}
+use borrow.Author.Tests.{lt-ltb, le-ltb, le-leb, lt-leb, leb-true, eq-eqb, ne-eqb, not-true, not-false}
+use Rattle.model.specs.Table.{Kind, Shaped, rowWords}
+use Rattle.model.specs.Ipv4.{ipv4}
+use Rattle.model.proofs.Tests.{by-test, and-left}
 use Rattle.header.specs.declared.Packet.{Packet}
 use Rattle.header.specs.declared.Header.the-variants.{Values, Unreadable}
 use Rattle.header.specs.Header.{headerOf}
 use Rattle.cells.specs.Text.{word}
 use Rattle.lookup.specs.declared.Walked.{Walked}
 use Rattle.lookup.specs.declared.Walked.the-variants.{At, Lost}
-use Rattle.stored.specs.Store.{cellsIn}
-use Rattle.lookup.specs.Walk.{seekOf, onFrom, throughOf, walkOf, refused, partIn, ruleIn, lookupOf, lookupValues, lookupHeader, lookupPacket}
+use Rattle.layout.specs.Store.{size, cellsIn}
+use Rattle.lookup.specs.Walk.{seekOf, onFrom, throughOf, walkOf, refused, partIn, begins, foundIn, lookupIn, lookupValues, lookupHeader, lookupPacket}
 
 module _ (w : List ℕ) (c v : ℕ) where
   -- one cell of a field, where m more may be read
@@ -74,69 +77,75 @@ pub walk-starts : (w : List ℕ) (c : ℕ) (vs : List ℕ) → walkOf w c vs ≡
 unfolding walkOf
 walk-starts w c vs = refl
 
--- the refusals at once, and what is left
-module _ (w vs : List ℕ) where
-  pub many-values : 64 < length vs → refused 9 ≡ lookupOf w vs
-  unfolding lookupOf
-  many-values h = simp (lt-leb _ 64 h)
+-- the refusals at once, and what is left, in a store of a kind
+module _ (k : Kind) (w vs : List ℕ) where
+  pub no-kind : (getD w 2 0 ≡ k .mark → ⊥) → refused 9 ≡ lookupIn k w vs
+  unfolding lookupIn
+  no-kind h = simp (ne-eqb _ (k .mark) h)
 
-  pub few-cells : length vs ≤ 64 → getD w 0 0 < 5 → refused 9 ≡ lookupOf w vs
-  unfolding lookupOf
-  few-cells v h = simp (le-leb _ 64 v, lt-leb 5 _ h)
+  -- fewer than three words are no store
+  pub no-word : Shaped k → length w < 3 → refused 9 ≡ lookupIn k w vs
+  unfolding lookupIn
+  no-word s h = by-test (eqb (getD w 2 0) (k .mark)) (λ m. by-test (leb (length (k .tops)) (getD w 0 0)) (λ a. by-test (leb (getD w 0 0) 65536)
+      (λ b. simp (m, a, b, lt-leb (size k (getD w 0 0)) (length w) (omega (arith, s .three))))
+      (λ b. simp (m, a, b))) (λ a. simp (m, a))) (λ m. simp m)
 
-  pub no-word : length vs ≤ 64 → length w < 1 → refused 9 ≡ lookupOf w vs
-  no-word v h = few-cells v (rw (List·getD-eq-default w 0 {n = 0} (omega arith)) (omega arith))
+  module _ (m : getD w 2 0 ≡ k .mark) where
+    pub few-cells : getD w 0 0 < length (k .tops) → refused 9 ≡ lookupIn k w vs
+    unfolding lookupIn
+    few-cells h = simp (eq-eqb _ (k .mark) m, lt-leb (length (k .tops)) _ h)
 
-  module _ (v : length vs ≤ 64) (a : 5 ≤ getD w 0 0) where
-    pub many-cells : 65536 < getD w 0 0 → refused 9 ≡ lookupOf w vs
-    unfolding lookupOf
-    many-cells h = simp (le-leb _ 64 v, le-leb 5 _ a, lt-leb _ 65536 h)
+    module _ (a : length (k .tops) ≤ getD w 0 0) where
+      pub many-cells : 65536 < getD w 0 0 → refused 9 ≡ lookupIn k w vs
+      unfolding lookupIn
+      many-cells h = simp (eq-eqb _ (k .mark) m, le-leb (length (k .tops)) _ a, lt-leb _ 65536 h)
 
-    pub few-words : getD w 0 0 ≤ 65536 → length w < 1024 + 8 * getD w 0 0 → refused 9 ≡ lookupOf w vs
-    unfolding lookupOf
-    few-words b h = simp (le-leb _ 64 v, le-leb 5 _ a, le-leb _ 65536 b, lt-leb _ (length w) h)
+      pub few-words : getD w 0 0 ≤ 65536 → length w < size k (getD w 0 0) → refused 9 ≡ lookupIn k w vs
+      unfolding lookupIn
+      few-words b h = simp (eq-eqb _ (k .mark) m, le-leb (length (k .tops)) _ a, le-leb _ 65536 b, lt-leb (size k (getD w 0 0)) (length w) h)
 
-    pub enough-words : getD w 0 0 ≤ 65536 → 1024 + 8 * getD w 0 0 ≤ length w → ruleIn w (walkOf (partIn w) (cellsIn w) vs) ≡ lookupOf w vs
-    unfolding lookupOf
-    enough-words b h = simp (le-leb _ 64 v, le-leb 5 _ a, le-leb _ 65536 b, le-leb _ (length w) h)
+      pub enough-words : getD w 0 0 ≤ 65536 → size k (getD w 0 0) ≤ length w → foundIn k w (walkOf (partIn k w) (cellsIn w) vs) ≡ lookupIn k w vs
+      unfolding lookupIn
+      enough-words b h = simp (eq-eqb _ (k .mark) m, le-leb (length (k .tops)) _ a, le-leb _ 65536 b, le-leb (size k (getD w 0 0)) (length w) h)
 
--- what the place that the walk came to says
-module _ (w vs : List ℕ) (c : ℕ) (q : c ≡ cellsIn w) where
-  part-is : walkOf (take (1024 + 8 * c - 1022) (drop 1022 w)) c vs ≡ walkOf (partIn w) c vs
-  part-is = let z : 1024 + 8 * c - 1022 ≡ 2 + 8 * cellsIn w = omega arith in rw z
+-- what the place that the walk came to says; the part of the words goes from a word up to an end
+module _ (k : Kind) (w vs : List ℕ) (c from : ℕ) (q : c ≡ cellsIn w) (f : from ≡ k .head + rowWords k) where
+  part-is : walkOf (take (from + (2 + 8 * c) - from) (drop from w)) c vs ≡ walkOf (partIn k w) c vs
+  part-is = let z : from + (2 + 8 * c) - from ≡ 2 + 8 * cellsIn w = omega arith in rw (z, f)
 
-  pub no-place : Lost ≡ walkOf (take (1024 + 8 * c - 1022) (drop 1022 w)) c vs → refused 9 ≡ ruleIn w (walkOf (partIn w) c vs)
-  no-place e = ap (ruleIn w) (e ∙ part-is)
+  pub no-place : Lost ≡ walkOf (take (from + (2 + 8 * c) - from) (drop from w)) c vs → refused 9 ≡ foundIn k w (walkOf (partIn k w) c vs)
+  no-place e = ap (foundIn k w) (e ∙ part-is)
 
-  module _ (p r : ℕ) (e : At p r ≡ walkOf (take (1024 + 8 * c - 1022) (drop 1022 w)) c vs) where
-    at-place : ruleIn w (At p r) ≡ ruleIn w (walkOf (partIn w) c vs)
-    at-place = ap (ruleIn w) (e ∙ part-is)
+  module _ (p r : ℕ) (e : At p r ≡ walkOf (take (from + (2 + 8 * c) - from) (drop from w)) c vs) (b : Bool) (g : b ≡ begins k (getD w 1 0) p) where
+    at-place : cond b (record { answer = 0; rule = getD w (k .head + p) 0; action = getD w (k .head + p + 1) 0; reads = r }) (refused 9) ≡ foundIn k w (walkOf (partIn k w) c vs)
+    at-place = rw g (ap (foundIn k w) (e ∙ part-is))
 
-    pub past-rows : 64 < p → refused 9 ≡ ruleIn w (walkOf (partIn w) c vs)
-    past-rows h = simp (lt-leb p 64 h) at at-place
+    pub past-rules : not b ≡ true → refused 9 ≡ foundIn k w (walkOf (partIn k w) c vs)
+    past-rules h = rw (not-true b h) at at-place
 
-    pub past-rules : p ≤ 64 → getD w 1 0 < p → refused 9 ≡ ruleIn w (walkOf (partIn w) c vs)
-    past-rules h l = simp (le-leb p 64 h, lt-leb p _ l) at at-place
+    pub rule-at : not b ≡ false → record { answer = 0; rule = getD w (k .head + p) 0; action = getD w (k .head + p + 1) 0; reads = r } ≡ foundIn k w (walkOf (partIn k w) c vs)
+    rule-at h = rw (not-false b h) at at-place
 
-    pub rule-at : p ≤ 64 → p ≤ getD w 1 0 → record { answer = 0; rule = getD w (47 + 15 * p) 0; action = getD w (47 + 15 * p + 1) 0; reads = r } ≡ ruleIn w (walkOf (partIn w) c vs)
-    rule-at h l = simp (le-leb p 64 h, le-leb p _ l) at at-place
+-- a row that begins at a place begins before the last of them ends
+pub begun : (k : Kind) (n p : ℕ) → begins k n p ≡ true → p ≤ k .width * k .most
+begun k n p h = leb-true p (k .width * k .most) (and-left _ _ h)
 
 -- a packet's five values
 module _ (w : List ℕ) (d s p dp sp : ℕ) (hd : d ≤ 4294967295) (hs : s ≤ 4294967295) where
-  pub protocol-high : 255 < p → refused 11 ≡ lookupValues w d s p dp sp
+  pub protocol-high : 255 < p → refused 11 ≡ lookupValues ipv4 w (d ∷ s ∷ p ∷ dp ∷ sp ∷ [])
   unfolding lookupValues
   protocol-high h = simp (le-leb d _ hd, le-leb s _ hs, lt-leb p 255 h)
 
-  pub to-port-high : p ≤ 255 → 65535 < dp → refused 11 ≡ lookupValues w d s p dp sp
+  pub to-port-high : p ≤ 255 → 65535 < dp → refused 11 ≡ lookupValues ipv4 w (d ∷ s ∷ p ∷ dp ∷ sp ∷ [])
   unfolding lookupValues
   to-port-high a h = simp (le-leb d _ hd, le-leb s _ hs, le-leb p 255 a, lt-leb dp 65535 h)
 
   module _ (a : p ≤ 255) (b : dp ≤ 65535) where
-    pub from-port-high : 65535 < sp → refused 11 ≡ lookupValues w d s p dp sp
+    pub from-port-high : 65535 < sp → refused 11 ≡ lookupValues ipv4 w (d ∷ s ∷ p ∷ dp ∷ sp ∷ [])
     unfolding lookupValues
     from-port-high h = simp (le-leb d _ hd, le-leb s _ hs, le-leb p 255 a, le-leb dp 65535 b, lt-leb sp 65535 h)
 
-    pub values-right : sp ≤ 65535 → lookupOf w (d ∷ s ∷ p ∷ dp ∷ sp ∷ []) ≡ lookupValues w d s p dp sp
+    pub values-right : sp ≤ 65535 → lookupIn ipv4 w (d ∷ s ∷ p ∷ dp ∷ sp ∷ []) ≡ lookupValues ipv4 w (d ∷ s ∷ p ∷ dp ∷ sp ∷ [])
     unfolding lookupValues
     values-right h = simp (le-leb d _ hd, le-leb s _ hs, le-leb p 255 a, le-leb dp 65535 b, le-leb sp 65535 h)
 

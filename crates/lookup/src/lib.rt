@@ -1,10 +1,15 @@
 // The lookup of a packet, or of its values, in a store's words, whatever they hold. It changes no word, and reads each cell on its way once.
 ghost use mathlib.Core.Path.{_≡_};
+ghost use mathlib.Core.List.{[], _∷_};
 ghost use Prim.Native.Nat.{_+_, _*_, _≤_};
 ghost use lib.ListN.{length};
-ghost use Rattle.stored.specs.Store.{cellsIn};
-ghost use Rattle.lookup.specs.Walk.{seekOf, walkOf, refused, partIn, ruleIn, lookupOf, lookupValues, lookupPacket};
+ghost use Rattle.model.specs.Table.{Shaped};
+ghost use Rattle.model.specs.Ipv4.{ipv4};
+ghost use Rattle.table.specs.Rows.{kindOf};
+ghost use Rattle.layout.specs.Store.{size, cellsIn};
+ghost use Rattle.lookup.specs.Walk.{seekOf, walkOf, refused, partIn, foundIn, lookupIn, lookupValues, lookupPacket};
 use header::Header;
+use table::Shape;
 
 // What a lookup answers: 0, the number and the action of the rule that decides, and the cells that were read; or a refusal's number and zeros.
 #[repr(C)]
@@ -15,7 +20,7 @@ pub struct Found {
     pub reads: u32,
 }
 
-// Where a walk ends: it is led down to a place, which is a cell of the next field or a rule's place in the table, or it is lost.
+// Where a walk ends: it is led down to a place, which is a cell of the next field or, behind the last one, the word of the rows at which a rule's row is to begin; or it is lost.
 pub enum Walked {
     At { place: u32, reads: u32 },
     Lost,
@@ -78,22 +83,20 @@ pub fn refuse(answer: u32) -> Found
     }
 }
 
-// The rule at the place that the walk comes to, where the words are enough for their c cells.
-fn decide(words: &[u32], c: u32, values: &[u32]) -> Found
-    requires { ⌜ (c ≡ cellsIn (now words)) × (c ≤ 65536) × (1024 + 8 * c ≤ length (now words)) × (length (now values) ≤ 64) ⌝ }
-    ensures { λ r. ⌜ r ≡ ruleIn (now (words .entry)) (walkOf (partIn (now (words .entry))) c (now (values .entry))) ⌝ }
+// The rule of the row that the walk comes to, where the words are enough for their c cells.
+fn decide(words: &[u32], c: u32, values: &[u32], tops: &[u32], shape: Shape) -> Found
+    requires { ⌜ Shaped (kindOf (now tops) shape) × (c ≡ cellsIn (now words)) × (c ≤ 65536) × (size (kindOf (now tops) shape) c ≤ length (now words)) × (length (now values) ≤ 64) ⌝ }
+    ensures { λ r. ⌜ r ≡ foundIn (kindOf (now (tops .entry)) shape) (now (words .entry)) (walkOf (partIn (kindOf (now (tops .entry)) shape) (now (words .entry))) c (now (values .entry))) ⌝ }
 {
-    let end = 1024 + 8 * (c as usize);
-    let Walked::At { place, reads } = walk(&words[1022..end], c, values) else {
+    let from = table::rows_end(shape) as usize;
+    let end = from + (2 + 8 * (c as usize));
+    let Walked::At { place, reads } = walk(&words[from..end], c, values) else {
         return refuse(9);
     };
-    if 64 < place {
+    if !table::begins(shape, words[1], place) {
         return refuse(9);
     }
-    if words[1] < place {
-        return refuse(9);
-    }
-    let row = 47 + 15 * (place as usize);
+    let row = (shape.head as usize) + (place as usize);
     Found {
         answer: 0,
         rule: words[row],
@@ -102,27 +105,28 @@ fn decide(words: &[u32], c: u32, values: &[u32]) -> Found
     }
 }
 
-// The lookup of some values, one for each field of the store: 9 at once where there are more than 64 of them, or where the words name no number of cells within its limits or are too few for it.
-pub fn lookup_slice(words: &[u32], values: &[u32]) -> Found
-    ensures { λ r. ⌜ r ≡ lookupOf (now (words .entry)) (now (values .entry)) ⌝ }
+// The lookup of some values, one for each field, in a store of a kind: 9 at once where the words name another kind, or no number of cells within its limits, or are too few for it.
+pub fn lookup_in(words: &[u32], values: &[u32], tops: &[u32], shape: Shape) -> Found
+    requires { ⌜ Shaped (kindOf (now tops) shape) × (length (now values) ≤ 64) ⌝ }
+    ensures { λ r. ⌜ r ≡ lookupIn (kindOf (now (tops .entry)) shape) (now (words .entry)) (now (values .entry)) ⌝ }
 {
-    if 64 < values.len() {
+    if words.len() < 3 {
         return refuse(9);
     }
-    if words.len() < 1 {
+    if words[2] != shape.mark {
         return refuse(9);
     }
     let c = words[0];
-    if c < 5 {
+    if c < (tops.len() as u32) {
         return refuse(9);
     }
     if 65536 < c {
         return refuse(9);
     }
-    if words.len() < 1024 + 8 * (c as usize) {
+    if words.len() < (table::rows_end(shape) as usize) + (2 + 8 * (c as usize)) {
         return refuse(9);
     }
-    decide(words, c, values)
+    decide(words, c, values, tops, shape)
 }
 
 // The lookup of a packet's five values: 11 where one is above its top. The two addresses have the whole range of a word.
@@ -134,7 +138,7 @@ pub fn lookup(
     destination_port: u32,
     source_port: u32,
 ) -> Found
-    ensures { λ r. ⌜ r ≡ lookupValues (now (words .entry)) destination source protocol «destination_port» «source_port» ⌝ }
+    ensures { λ r. ⌜ r ≡ lookupValues ipv4 (now (words .entry)) (destination ∷ source ∷ protocol ∷ «destination_port» ∷ «source_port» ∷ []) ⌝ }
 {
     if 255 < protocol {
         return refuse(11);
@@ -146,7 +150,7 @@ pub fn lookup(
         return refuse(11);
     }
     let values = [destination, source, protocol, destination_port, source_port];
-    lookup_slice(words, &values)
+    lookup_in(words, &values, &ipv4::TOPS, ipv4::shape())
 }
 
 // The lookup of an IPv4 packet, whose bytes begin at its header: 7 where that gives no values, and no lookup is begun.

@@ -1,4 +1,4 @@
--- What insert and delete make of a table: which rules stand, how many, within the limits, in how many cells; and a delete undoes an insert.
+-- What insert and delete make of a table: which rules stand, how many, within the limits, in how many cells.
 -- Assumes nothing.
 use mathlib.Core.Path.{_≡_, refl, ap, _∙_}
 use mathlib.Core.Logic.{_⊎_, inl, inr, ⊎-elim}
@@ -8,8 +8,9 @@ use Prim.Native.Nat.{ℕ, suc, _≤_, _<_}
 use native.Mathlib.Omega.{arith}
 use lib.Dec.{ltb, leb, eqb}
 use lib.ListN.{length}
-use borrow.Author.Tests.{ltb-true, ltb-false, leb-false, eqb-true, eqb-false, eq-eqb, ne-eqb, not-true, not-false}
+use borrow.Author.Tests.{ltb-true, ltb-false, leb-false, eqb-true, eqb-false, ne-eqb, not-true, not-false}
 use Rattle.model.specs.Lists.{In, least}
+use Rattle.model.specs.Rules.{weight}
 use Rattle.model.specs.Table.{Kind, Rule, Table, numberOf, fields, defaultRule, everyRule, cellsOf, ruleRight, risingFrom, within, stands, added, removed, withRule, without, insertAnswer}
 use Rattle.model.proofs.Tests.{by-test}
 use Rattle.model.proofs.Keep.{in-keep, from-keep, keep-every, length-keep, in-left, in-right}
@@ -128,21 +129,8 @@ delete-within k n t h =
 
 -- "Deleting never needs more cells than before"
 pub delete-fewer : (k : Kind) (n : ℕ) (t : Table) → cellsOf k (without n t) ≤ cellsOf k t
-delete-fewer k n t = fewer (least numberOf (defaultRule k (t .action))) (least numberOf (defaultRule k (t .action))) (fields k) (everyRule k (without n t)) (everyRule k t)
+delete-fewer k n t = fewer weight weight (least numberOf (defaultRule k (t .action))) (least numberOf (defaultRule k (t .action))) (λ xs ys s. omega arith) (fields k) (everyRule k (without n t)) (everyRule k t)
     (λ s m. ⊎-elim
     (λ (i : In s (removed n (t .rules))). in-left (t .rules) (defaultRule k (t .action) ∷ []) s (from-removed n (t .rules) s i .0))
     (λ (q : s ≡ defaultRule k (t .action)). in-right (t .rules) (defaultRule k (t .action) ∷ []) s (inl q))
     (from-every k (without n t) s m))
-
--- A delete undoes an insert.
-pub insert-delete : (r : Rule) (rs : List Rule) → stands (r .number) rs ≡ false → removed (r .number) (added r rs) ≡ rs
-insert-delete r rs s = go rs (not-standing (r .number) rs s)
-  where
-    gone : (ss : List Rule) → ((x : Rule) → In x ss → x .number ≡ r .number → ⊥) → removed (r .number) (r ∷ ss) ≡ ss
-    gone ss h = rw (eq-eqb (r .number) (r .number) refl) (removed-none (r .number) ss h)
-
-    go : (ss : List Rule) → ((x : Rule) → In x ss → x .number ≡ r .number → ⊥) → removed (r .number) (added r ss) ≡ ss
-    go [] h = gone [] h
-    go (x ∷ ss) h = by-test (ltb (x .number) (r .number))
-        (λ t. let e = ne-eqb (x .number) (r .number) (h x (inl refl)) in simp (t, e) (ap (λ (l : List Rule). x ∷ l) (go ss (λ y m. h y (inr m)))))
-        (λ t. rw t (gone (x ∷ ss) h))

@@ -9,3 +9,4 @@ pub mod UpTo
 pub mod Limits
 pub mod Edits
 pub mod Decide
+pub mod Grid

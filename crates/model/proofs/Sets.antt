@@ -1,16 +1,16 @@
--- The tree, so its cells and its walks, the count of reads and the winner depend on the set of rules alone: not on their order, and not on how often one stands in the list. The winner is what its name says; and records that the same ranges hold get the same winner.
+-- The tree, so its cells and its walks, the count of reads and the winner depend on the set of rules alone: not on their order, and not on how often one stands in the list. The winner is what its name says.
 -- Assumes nothing.
-use mathlib.Core.Path.{_≡_, refl, sym, ap, ap₂, _∙_, fun-ext}
+use mathlib.Core.Path.{_≡_, refl, ap, ap₂, fun-ext}
 use mathlib.Core.Logic.{_⊎_, inl, inr, ⊎-elim}
-use mathlib.Core.Bool.{Bool, true, false, cond, _&&_}
+use mathlib.Core.Bool.{Bool, true, false, cond}
 use mathlib.Core.List.{List, [], _∷_}
-use Prim.Native.Nat.{ℕ, zero, suc, _+_, _≤_}
+use Prim.Native.Nat.{ℕ, _≤_}
 use native.Mathlib.Omega.{arith}
 use lib.Dec.{leb}
 use borrow.Author.Tests.{leb-true, leb-false, le-leb}
-use Rattle.model.specs.Lists.{In, Sub, Same, keep, least}
-use Rattle.model.specs.Rules.{Field, covers, holds, winner, ends, readsSum, names, chain, tree}
-use Rattle.model.proofs.Keep.{from-keep, in-keep, keep-same, keep-set}
+use Rattle.model.specs.Lists.{In, Same, keep, least}
+use Rattle.model.specs.Rules.{Field, covers, holds, winner, readsSum, names, chain, tree}
+use Rattle.model.proofs.Keep.{from-keep, in-keep, keep-set}
 use Rattle.model.proofs.Ends.{ends-same}
 
 -- the tree depends on the set of rules alone, where what is named does
@@ -97,16 +97,3 @@ module _ {P A : Type 0} (number : A → ℕ) (d : A) (fs : List (Field P A)) (p 
       up : (x : A) → In x (d ∷ keep (holds fs p) rs) → In x (d ∷ rs)
       up x (inl q) = inl q
       up x (inr m) = inr (from-keep (holds fs p) rs x m .0)
-
--- A LOCATION IS UNIFORM: two records that the same ranges of the rules hold get the same winner
-module _ {P A : Type 0} (p q : P) where
-  abbrev pub Alike : List (Field P A) → A → Type 0
-  Alike [] r = Unit {0}
-  Alike (f ∷ fs) r = (covers f (f .value p) r ≡ covers f (f .value q) r) × Alike fs r
-
-  holds-alike : (fs : List (Field P A)) (r : A) → Alike fs r → holds fs p r ≡ holds fs q r
-  holds-alike [] r h = refl
-  holds-alike (f ∷ fs) r h = ap₂ _&&_ (h .0) (holds-alike fs r (h .1))
-
-  pub uniform : (number : A → ℕ) (d : A) (fs : List (Field P A)) (rs : List A) → ((r : A) → In r rs → Alike fs r) → winner number d fs p rs ≡ winner number d fs q rs
-  uniform number d fs rs h = ap (least number d) (keep-same (holds fs p) (holds fs q) rs (λ r m. holds-alike fs r (h r m)))

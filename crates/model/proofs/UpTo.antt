@@ -1,15 +1,15 @@
 -- Lists that are made by place, and lists that are equal number for number.
 -- Assumes nothing.
 use mathlib.Core.Path.{_≡_, refl, sym, ap, _∙_}
-use mathlib.Core.Logic.{_⊎_, inl, inr}
-use mathlib.Core.Bool.{Bool, true, false, _&&_}
+use mathlib.Core.Logic.{inl, inr}
+use mathlib.Core.Bool.{true, false}
 use mathlib.Core.List.{List, [], _∷_, _++_}
 use Prim.Native.Nat.{ℕ, zero, suc, _+_, _-_, _≤_, _<_}
 use native.Mathlib.Omega.{arith}
 use native.Mathlib.Numerals.{add-one}
 use lib.Dec.{eqb}
-use lib.ListN.{length, getD, take, drop, set}
-use lib.Seq.{ext-getD, take-suc-set, take-length}
+use lib.ListN.{length, getD, take, set}
+use lib.Seq.{take-suc-set, take-length}
 use borrow.Author.Tests.{eqb-true, eq-eqb}
 use Rattle.model.specs.Lists.{In, same, upTo}
 use Rattle.model.proofs.Tests.{by-test, never, and-left, and-right}

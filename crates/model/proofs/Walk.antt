@@ -1,14 +1,13 @@
 -- A walk of the tree finds what the rules say, and reads as many cells as the rules say. The reason: no rule tells a value from the first end that is not below it.
 -- Assumes nothing.
 use mathlib.Core.Path.{_≡_, refl, sym, ap, ap₂, _∙_}
-use mathlib.Core.Logic.{_⊎_, inl, inr}
+use mathlib.Core.Logic.{inl, inr}
 use mathlib.Core.Bool.{Bool, true, false, cond, _&&_}
 use mathlib.Core.List.{List, [], _∷_}
 use mathlib.Core.Option.{some}
-use Prim.Native.Nat.{ℕ, zero, suc, _+_, _≤_, _<_}
+use Prim.Native.Nat.{ℕ, zero, suc, _+_, _≤_}
 use native.Mathlib.Omega.{arith}
 use lib.Dec.{ltb, leb, eqb}
-use lib.ListN.{length}
 use borrow.Author.Tests.{ltb-true, ltb-false, le-ltb, leb-true, le-leb, eqb-true}
 use Rattle.model.specs.Lists.{In, Rising, keep, below}
 use Rattle.model.specs.Rules.{Field, covers, holds, ends, Tree, chain, tree, found, reads, values, readsSum, withinTops}

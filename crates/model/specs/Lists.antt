@@ -3,7 +3,7 @@
 use mathlib.Core.Path.{_≡_}
 use mathlib.Core.Logic.{_⊎_}
 use mathlib.Core.Bool.{Bool, true, false, cond, _&&_}
-use mathlib.Core.List.{List, [], _∷_}
+use mathlib.Core.List.{List, [], _∷_, _++_}
 use Prim.Native.Nat.{ℕ, zero, suc, _+_, _<_}
 use lib.Dec.{ltb, leb, eqb}
 
@@ -60,3 +60,8 @@ same (x ∷ xs) (y ∷ ys) = eqb x y && same xs ys
 unfoldable pub upTo : {A : Type 0} → ℕ → (ℕ → A) → List A
 upTo zero f = []
 upTo (suc n) f = f 0 ∷ upTo n (λ i. f (suc i))
+
+-- n rows of w numbers, one row behind the other: f p 0, .., f p (w - 1) is row p
+unfoldable pub grid : {A : Type 0} → ℕ → ℕ → (ℕ → ℕ → A) → List A
+grid w zero f = []
+grid w (suc n) f = upTo w (f 0) ++ grid w n (λ p. f (suc p))

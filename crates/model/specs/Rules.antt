@@ -62,11 +62,19 @@ abbrev pub tree : {P A B : Type 0} → (List A → B) → List (Field P A) → L
 tree g [] rs = names (g rs)
 tree g (f ∷ fs) rs = chain (λ e. tree g fs (keep (covers f e) rs)) (ends f rs)
 
--- "One location takes one cell"
+-- "One location takes one cell", and what is named where no field is left takes as many as w says of it
+abbrev pub cellsBy : {B : Type 0} → (B → ℕ) → Tree B → ℕ
+cellsBy w (names b) = w b
+cellsBy w stop = 0
+cellsBy w (loc e u t) = suc (cellsBy w u + cellsBy w t)
+
+-- what is named takes no cell of its own
+abbrev pub weight : {B : Type 0} → B → ℕ
+weight b = 0
+
+-- the cells that a tree takes
 abbrev pub cells : {B : Type 0} → Tree B → ℕ
-cells (names b) = 0
-cells stop = 0
-cells (loc e u t) = suc (cells u + cells t)
+cells t = cellsBy weight t
 
 -- what a walk of the tree finds for the values, one for each field: in a chain it passes the ends below the value, and goes down at the first other one
 abbrev pub found : {B : Type 0} → Tree B → List ℕ → Option B

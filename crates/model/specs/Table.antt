@@ -2,16 +2,38 @@
 -- Assumes nothing: these are definitions.
 use mathlib.Core.Bool.{Bool, true, false, cond, not, _&&_, _||_}
 use mathlib.Core.List.{List, [], _∷_, _++_, map}
-use Prim.Native.Nat.{ℕ, suc}
+use Prim.Native.Nat.{ℕ, suc, _+_, _*_, _≤_, _<_}
 use lib.Dec.{ltb, leb, eqb}
 use lib.ListN.{length, getD}
 use Rattle.model.specs.Lists.{keep, least}
 use Rattle.model.specs.Rules.{Field, Tree, tree, cells, winner, readsSum, rangesRight, withinTops}
 
--- What a store is made for: the top of each field, in order, and how many rules it takes besides the default.
+-- A kind of store, all in which stores differ: the top of each field, in order; which field (from 0) is the destination port's, with the source port's behind it; how many rules it takes besides the default; the words of a rule's row; the words before the rows; and the number by which word 2 names the kind.
 pub record Kind : Type 0 where
   pub tops : List ℕ
+  pub ports : ℕ
   pub most : ℕ
+  pub width : ℕ
+  pub head : ℕ
+  pub mark : ℕ
+
+-- the words of all rows, the default's among them
+abbrev pub rowWords : Kind → ℕ
+rowWords k = k .width * suc (k .most)
+
+-- the words before the first cell: the head, the rows, two links
+abbrev pub front : Kind → ℕ
+front k = k .head + rowWords k + 2
+
+-- What every kind of store has, and no law asks more of one: a row has its rule's words, the head three, and all is small.
+pub record Shaped (k : Kind) : Type 0 where
+  pub some : 0 < length (k .tops)
+  pub both : k .ports + 1 < length (k .tops)
+  pub ends : 2 + 2 * length (k .tops) ≤ k .width
+  pub narrow : k .width ≤ 31
+  pub few : k .most ≤ 512
+  pub three : 3 ≤ k .head
+  pub short : k .head ≤ 512
 
 -- A rule: its number, its action, and a low and a high end for each field.
 pub record Rule : Type 0 where

@@ -5,8 +5,8 @@ use mathlib.Core.List.{List}
 use Prim.Native.Nat.{ℕ}
 use Rattle.model.specs.Table.{Rule}
 use Rattle.model.specs.Ipv4.{ipv4}
-use Rattle.table.specs.Rows.{five}
-use Rattle.stored.specs.Store.{passes}
+use Rattle.ipv4.specs.Rule.{five}
+use Rattle.layout.specs.Store.{passes}
 use Rattle.reamstork.specs.declared.Reading.{Reading}
 
 -- a rule as C hands it over: two numbers and two arrays of five ends

@@ -1,17 +1,18 @@
 // The C face of the library, as include/reamstork.h declares it: exported functions and nothing else. Each says, for every input, what it returns and what every lent word then holds.
 ghost use mathlib.Core.Path.{_≡_};
+ghost use mathlib.Core.List.{[], _∷_};
 ghost use Rattle.model.specs.Ipv4.{ipv4};
 ghost use Rattle.prefix.specs.Prefix.{rangeOf};
-ghost use Rattle.stored.specs.Store.{startAnswer, startWords, insertSays, insertWords, deleteSays, deleteWords, readSays, readGives, cellsSays, cellsGives};
+ghost use Rattle.layout.specs.Store.{startAnswer, startWords, insertSays, insertWords, deleteSays, deleteWords, readSays, readGives, cellsSays, cellsGives};
 ghost use Rattle.lookup.specs.Walk.{lookupValues, lookupPacket};
 ghost use Rattle.tally.specs.Tally.{tallyAnswer, talliesLeft, cleared, difference};
 ghost use Rattle.scan.specs.Scan.{scanValues};
 ghost use Rattle.reamstork.specs.Face.{ruleOf, ruleRead, checkSays};
+use audit::Count;
+use ipv4::Rule;
 use lookup::Found;
 use prefix::Range;
 use scan::Winner;
-use store::Count;
-use table::Rule;
 use tally::Tallies;
 
 // What reading a rule gives: the answer, and the rule, or zeros with a refusal.
@@ -112,7 +113,7 @@ pub extern "C" fn reamstork_lookup(
     destination_port: u32,
     source_port: u32,
 ) -> Found
-    ensures { λ r. ⌜ r ≡ lookupValues (now (words .entry)) destination source protocol «destination_port» «source_port» ⌝ }
+    ensures { λ r. ⌜ r ≡ lookupValues ipv4 (now (words .entry)) (destination ∷ source ∷ protocol ∷ «destination_port» ∷ «source_port» ∷ []) ⌝ }
 {
     lookup::lookup(
         words,

@@ -1,2 +1,4 @@
 pub mod Sets
 pub mod Insert
+pub mod Behind
+pub mod Room

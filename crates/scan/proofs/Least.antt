@@ -15,8 +15,8 @@ use Rattle.model.proofs.Tests.{by-test}
 abbrev pub lower : Rule → Rule → Rule
 lower r x = cond (ltb (x .number) (r .number)) x r
 
-pub front : (d r x : Rule) (rs : List Rule) → least numberOf d (r ∷ x ∷ rs) ≡ least numberOf d (lower r x ∷ rs)
-front d r x rs = go (least numberOf d rs)
+pub front-two : (d r x : Rule) (rs : List Rule) → least numberOf d (r ∷ x ∷ rs) ≡ least numberOf d (lower r x ∷ rs)
+front-two d r x rs = go (least numberOf d rs)
   where
     go : (m : Rule) → cond (leb (r .number) (cond (leb (x .number) (m .number)) x m .number)) r (cond (leb (x .number) (m .number)) x m)
         ≡ cond (leb (lower r x .number) (m .number)) (lower r x) m
@@ -35,8 +35,8 @@ pub behind : (rs : List Rule) (r d : Rule) → r .number ≤ d .number → least
 behind [] r d h = rw (le-leb (r .number) (d .number) h, le-leb (r .number) (r .number) (omega arith))
 behind (x ∷ rs) r d h =
     let l = lower-most r x in
-    front d r x rs ∙ behind rs (lower r x) d (omega arith) ∙ sym (front r r x rs ∙ behind rs (lower r x) r l)
+    front-two d r x rs ∙ behind rs (lower r x) d (omega arith) ∙ sym (front-two r r x rs ∙ behind rs (lower r x) r l)
 
 -- so the first with the least number is found in one pass
 pub one-more : (r x : Rule) (rs : List Rule) → least numberOf (lower r x) (lower r x ∷ rs) ≡ least numberOf r (r ∷ x ∷ rs)
-one-more r x rs = sym (front r r x rs ∙ behind rs (lower r x) r (lower-most r x))
+one-more r x rs = sym (front-two r r x rs ∙ behind rs (lower r x) r (lower-most r x))

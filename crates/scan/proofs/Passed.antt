@@ -20,7 +20,7 @@ use denote.Slice.{ShrSlice, slice-vals, shr-slice-tells}
 use denote.Steps.{owned, nothing}
 use denote.Triple.Walked.{Stays, stay-none, stay-none-slice, AllGo, goes-none, goes-none-slice}
 use denote.Exit.{yes}
-use Rattle.table.proofs.Rule as R
+use Rattle.ipv4.proofs.Rule as R
 use Rattle.scan.proofs.scan as scan
 
 -- at exit each is seen as it was passed

@@ -11,11 +11,11 @@ use Rattle.model.specs.Ipv4.{ipv4}
 use Rattle.header.specs.declared.Packet.{Packet}
 use Rattle.header.specs.declared.Header.the-variants.{Values}
 use Rattle.header.specs.Header.{valuesOf}
-use Rattle.table.specs.declared.Rule.{Rule as Given}
-use Rattle.table.specs.Rows.{given}
+use Rattle.ipv4.specs.declared.Rule.{Rule as Given}
+use Rattle.ipv4.specs.Rule.{given}
 use Rattle.model.specs.Lists.{upTo}
 use Rattle.scan.specs.declared.Lead.{Lead}
-use Rattle.scan.specs.Scan.{holdsPacket, refused, precedesLead, stepped, ended}
+use Rattle.scan.specs.Scan.{holdsPacket, noWinner, precedesLead, stepped, finished}
 
 -- where the code found x of the test a, and `!x` came out so
 pub no : {a x : Bool} → x ≡ a → not x ≡ true → a ≡ false
@@ -94,10 +94,10 @@ module _ (p : Packet) (d : p .destination ≤ 4294967295) (s : p .source ≤ 429
 
 -- THE END
 module _ (l : Lead) where
-  pub end-refused : packetRight ipv4 (valuesOf (Values (l .packet))) ≡ false → refused 11 ≡ ended l
-  unfolding ended
+  pub end-refused : packetRight ipv4 (valuesOf (Values (l .packet))) ≡ false → noWinner 11 ≡ finished l
+  unfolding finished
   end-refused h = rw h
 
-  pub end-named : packetRight ipv4 (valuesOf (Values (l .packet))) ≡ true → record { answer = 0; rule = l .number; action = l .action } ≡ ended l
-  unfolding ended
+  pub end-named : packetRight ipv4 (valuesOf (Values (l .packet))) ≡ true → record { answer = 0; rule = l .number; action = l .action } ≡ finished l
+  unfolding finished
   end-named h = rw h

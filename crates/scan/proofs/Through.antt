@@ -14,10 +14,10 @@ use Rattle.model.specs.Lists.{keep, least}
 use Rattle.model.specs.Table.{Rule, numberOf}
 use Rattle.model.proofs.Tests.{by-test}
 use Rattle.header.specs.declared.Packet.{Packet}
-use Rattle.table.specs.declared.Rule.{Rule as Given}
-use Rattle.table.specs.Rows.{given}
+use Rattle.ipv4.specs.declared.Rule.{Rule as Given}
+use Rattle.ipv4.specs.Rule.{given}
 use Rattle.scan.specs.declared.Lead.{Lead}
-use Rattle.scan.specs.Scan.{holdsPacket, decider, rulesOf, scanValues, started, stepped, through, ended}
+use Rattle.scan.specs.Scan.{holdsPacket, decider, rulesOf, scanValues, started, stepped, through, finished}
 use Rattle.scan.proofs.Steps.{not-held, not-before, leads}
 use Rattle.scan.proofs.Least.{lower, one-more}
 
@@ -59,8 +59,8 @@ module _ (p : Packet) where
         (λ h. carried (x ∷ rs) (ap (λ l. through l rs) (sym (not-held (started a p) x h))) (simp h (from-started rs)))
 
   -- so the scan's answer is what is left at the end
-  pub scan-is : (rs : List Given) (a : ℕ) → ended (through (started a p) rs) ≡ scanValues rs a (p .destination) (p .source) (p .protocol) (p .«destination_port») (p .«source_port»)
-  unfolding ended scanValues
+  pub scan-is : (rs : List Given) (a : ℕ) → finished (through (started a p) rs) ≡ scanValues rs a (p .destination) (p .source) (p .protocol) (p .«destination_port») (p .«source_port»)
+  unfolding finished scanValues
   scan-is rs a = let e = from-started a rs in rw (e .0, e .1, e .2)
 
 -- THE LOOP: where record i is looked at next, the scan goes on with the records from there

@@ -11,8 +11,8 @@ use Rattle.model.specs.Ipv4.{ipv4}
 use Rattle.header.specs.declared.Packet.{Packet}
 use Rattle.header.specs.declared.Header.the-variants.{Values}
 use Rattle.header.specs.Header.{valuesOf}
-use Rattle.table.specs.declared.Rule.{Rule as Given}
-use Rattle.table.specs.Rows.{given}
+use Rattle.ipv4.specs.declared.Rule.{Rule as Given}
+use Rattle.ipv4.specs.Rule.{given}
 use Rattle.scan.specs.declared.Winner.{Winner}
 use Rattle.scan.specs.declared.Lead.{Lead}
 
@@ -33,8 +33,8 @@ decider rs a p = firstLeast (defaultRule ipv4 a) (keep (holdsPacket p) rs)
 abbrev pub named : Rule → Winner
 named r = record { answer = 0; rule = r .number; action = r .action }
 
-abbrev pub refused : ℕ → Winner
-refused a = record { answer = a; rule = 0; action = 0 }
+abbrev pub noWinner : ℕ → Winner
+noWinner a = record { answer = a; rule = 0; action = 0 }
 
 -- the records of a list as rules
 abbrev pub rulesOf : List Given → List Rule
@@ -45,7 +45,7 @@ unfoldable pub scanValues : List Given → ℕ → ℕ → ℕ → ℕ → ℕ �
 scanValues records action destination source protocol destinationPort sourcePort =
     cond (packetRight ipv4 (destination ∷ source ∷ protocol ∷ destinationPort ∷ sourcePort ∷ []))
     (named (decider (rulesOf records) action (record { destination = destination; source = source; protocol = protocol; «destination_port» = destinationPort; «source_port» = sourcePort })))
-    (refused 11)
+    (noWinner 11)
 
 -- ITS STEPS. Before the first record no rule leads, and the action is the default's.
 abbrev pub started : ℕ → Packet → Lead
@@ -68,5 +68,5 @@ through l [] = l
 through l (r ∷ rs) = through (stepped l r) rs
 
 -- what is answered once all were looked at
-unfoldable pub ended : Lead → Winner
-ended l = cond (packetRight ipv4 (valuesOf (Values (l .packet)))) (record { answer = 0; rule = l .number; action = l .action }) (refused 11)
+unfoldable pub finished : Lead → Winner
+finished l = cond (packetRight ipv4 (valuesOf (Values (l .packet)))) (record { answer = 0; rule = l .number; action = l .action }) (noWinner 11)

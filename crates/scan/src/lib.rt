@@ -6,10 +6,10 @@ ghost use Rattle.model.specs.Table.{packetRight};
 ghost use Rattle.model.specs.Ipv4.{ipv4};
 ghost use Rattle.header.specs.declared.Header.the-variants.{Values};
 ghost use Rattle.header.specs.Header.{valuesOf};
-ghost use Rattle.table.specs.Rows.{given};
-ghost use Rattle.scan.specs.Scan.{holdsPacket, scanValues, started, precedesLead, stepped, ended};
+ghost use Rattle.ipv4.specs.Rule.{given};
+ghost use Rattle.scan.specs.Scan.{holdsPacket, scanValues, started, precedesLead, stepped, finished};
 use header::Packet;
-use table::Rule;
+use ipv4::Rule;
 
 // What a scan answers: 0, and the number and the action of the rule that decides; or a refusal's number and zeros.
 #[repr(C)]
@@ -126,7 +126,7 @@ fn right(packet: Packet) -> bool
 
 // What the scan answers at its end.
 fn finish(lead: Lead) -> Winner
-    ensures { λ r. ⌜ r ≡ ended lead ⌝ }
+    ensures { λ r. ⌜ r ≡ finished lead ⌝ }
 {
     let packet = lead.packet;
     if !right(packet) {

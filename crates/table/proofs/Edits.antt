@@ -4,18 +4,19 @@ use mathlib.Core.Path.{_≡_, refl, sym, ap, _∙_}
 use mathlib.Core.Logic.{_⊎_, inl, inr, ⊎-elim}
 use mathlib.Core.Bool.{Bool, true, false, cond}
 use mathlib.Core.List.{List, [], _∷_}
-use Prim.Native.Nat.{ℕ, zero, suc, _+_, _-_, _*_, _/_, _%_, _≤_, _<_}
+use Prim.Native.Nat.{ℕ, zero, suc, _+_, _-_, _*_, _≤_, _<_}
 use native.Mathlib.Omega.{arith}
 use lib.Dec.{ltb, eqb}
 use lib.ListN.{length, getD, List·getD-eq-default}
 use borrow.Author.Tests.{ltb-true, ltb-false, lt-ltb, le-ltb, eq-eqb, ne-eqb, eqb-true, eqb-false}
-use Rattle.model.specs.Lists.{In, upTo}
-use Rattle.model.specs.Table.{Kind, Rule, Table, risingFrom, stands, added, removed, withRule, without}
+use Rattle.model.specs.Lists.{upTo}
+use Rattle.model.specs.Table.{Kind, Rule, Table, rowWords, risingFrom, stands, added, removed, withRule, without}
 use Rattle.model.proofs.Tests.{by-test, never}
-use Rattle.model.proofs.UpTo.{length-upTo, getD-upTo, upTo-same}
+use Rattle.model.proofs.UpTo.{length-upTo, getD-upTo}
+use Rattle.model.proofs.Grid.{row-ends, row-starts, length-grid, getD-grid, grid-is}
 use Rattle.model.proofs.Limits.{rises, in-rising, standing}
 use Rattle.model.proofs.Edits.{removed-none, length-removed}
-use Rattle.table.specs.Rows.{noRule, rowWord, placed, rowsWord, rowsText, ahead, putWord, takeWord}
+use Rattle.table.specs.Rows.{noRule, rowWord, placed, rowsText, ahead, putWord, takeWord}
 use Rattle.table.proofs.Laws.{row-none}
 
 -- PUTTING IN. The rule stands behind those that are ahead of it.
@@ -43,9 +44,22 @@ added-behind r (x ∷ rs) d i h = go (added-behind r rs d) (ltb (x .number) (r .
 
 -- word i of the rows of a table
 module _ (k : Kind) (t : Table) where
-  pub rows-at : (i : ℕ) → i < 975 → getD (rowsText k t) i 0 ≡ rowsWord k t i
+  pub rows-long : length (rowsText k t) ≡ rowWords k
   unfolding rowsText
-  rows-at i h = getD-upTo 975 (rowsWord k t) i 0 h
+  rows-long = length-grid (k .width) (suc (k .most)) (λ p. rowWord (placed k t p))
+
+  pub rows-at : (p j : ℕ) → p ≤ k .most → j < k .width → getD (rowsText k t) (k .width * p + j) 0 ≡ rowWord (placed k t p) j
+  unfolding rowsText
+  rows-at p j u v = getD-grid (k .width) (suc (k .most)) (λ p. rowWord (placed k t p)) p j 0 (omega arith) v
+
+  pub rows-past : (i : ℕ) → rowWords k ≤ i → getD (rowsText k t) i 0 ≡ 0
+  rows-past i h = List·getD-eq-default (rowsText k t) 0 {n = i} (omega (arith, rows-long))
+
+  -- words that are made by place are the rows, where they are so in each row
+  pub rows-are : (f : ℕ → ℕ) → ((p j : ℕ) → p ≤ k .most → j < k .width → f (k .width * p + j) ≡ rowWord (placed k t p) j) → upTo (rowWords k) f ≡ rowsText k t
+  unfolding rowsText
+  rows-are f h = grid-is 0 (upTo (rowWords k) f) (k .width) (suc (k .most)) (λ p. rowWord (placed k t p)) (length-upTo (rowWords k) f)
+      (λ p j u v. getD-upTo (rowWords k) f (k .width * p + j) 0 (omega (arith, row-ends (k .width) p (suc (k .most)) u)) ∙ h p j (omega arith) v)
 
   pub placed-past : (p : ℕ) → length (t .rules) < p → placed k t p ≡ noRule
   unfolding placed
@@ -69,23 +83,23 @@ module _ (k : Kind) (t : Table) (r : Rule) (p : ℕ) (e : p ≡ suc (ahead (r .n
   placed-behind (suc q) zero h l = absurd (omega arith)
   placed-behind (suc q) (suc s) h l = let z : q ≡ suc s = omega arith in rw z (added-behind r (t .rules) noRule s (omega arith))
 
-  pub put-rows : (rows row : List ℕ) → rows ≡ rowsText k t → ((j : ℕ) → j < 15 → getD row j 0 ≡ rowWord r j) → upTo 975 (putWord rows p row) ≡ rowsText k (withRule r t)
-  unfolding rowsText
-  put-rows rows row f g = upTo-same 975 (putWord rows p row) (rowsWord k (withRule r t)) (λ i h. by-test (ltb i (15 * p))
-      (λ u.
-      let a = ltb-true i (15 * p) u in
-      rw u (ap (λ l. getD l i 0) f ∙ rows-at k t i h ∙ ap (λ x. rowWord x (i % 15)) (sym (placed-before (i / 15) (omega arith)))))
-      (λ u.
-      let a = ltb-false i (15 * p) u in
-      by-test (ltb i (15 * p + 15))
-      (λ v.
-      let b = ltb-true i (15 * p + 15) v in
-      let z : i - 15 * p ≡ i % 15 = omega arith in
-      rw (u, v) (g (i - 15 * p) (omega arith) ∙ rw (z, placed-here (i / 15) (omega arith))))
-      (λ v.
-      let b = ltb-false i (15 * p + 15) v in
-      let z : (i - 15) % 15 ≡ i % 15 = omega arith in
-      rw (u, v) (ap (λ l. getD l (i - 15) 0) f ∙ rows-at k t (i - 15) (omega arith) ∙ rw (z, placed-behind (i / 15) ((i - 15) / 15) (omega arith) (omega arith))))))
+  pub put-rows : (rows row : List ℕ) → rows ≡ rowsText k t → ((j : ℕ) → j < k .width → getD row j 0 ≡ rowWord r j) → upTo (rowWords k) (putWord (k .width) rows (k .width * p) row) ≡ rowsText k (withRule r t)
+  put-rows rows row f g = let w = k .width in rows-are k (withRule r t) (putWord w rows (w * p) row) (λ q j u v. by-test (ltb q p)
+      (λ a.
+      let z = ltb-true q p a in
+      rw (lt-ltb (w * q + j) (w * p) (omega (arith, row-ends w q p z)), f) (rows-at k t q j u v ∙ ap (λ x. rowWord x j) (sym (placed-before q z))))
+      (λ a.
+      let z = ltb-false q p a in
+      rw (le-ltb (w * q + j) (w * p) (omega (arith, row-starts w p q z))) (by-test (eqb q p)
+      (λ b.
+      let y = eqb-true q p b in
+      let x : w * q + j - w * p ≡ j = rw y (omega arith) in
+      rw (lt-ltb (w * q + j) (w * p + w) (rw y (omega arith)), x) (g j v ∙ rw (placed-here q y)))
+      (λ b.
+      let y : p < q = omega (arith, eqb-false q p b) in
+      let s : suc (q - 1) ≡ q = omega arith in
+      let x : w * q + j - w ≡ w * (q - 1) + j = omega (arith, ap (λ i. w * i) s) in
+      rw (le-ltb (w * q + j) (w * p + w) (omega (arith, row-ends w p q y)), x, f) (rows-at k t (q - 1) j (omega arith) v ∙ ap (λ x. rowWord x j) (sym (placed-behind q (q - 1) y s)))))))
 
 -- TAKING OUT. In rising order the rule of the number n, if it stands, is the first that is not ahead of n.
 first-or-later : (n b : ℕ) (x : Rule) (rs : List Rule) → risingFrom b (x ∷ rs) ≡ true → stands n (x ∷ rs) ≡ true
@@ -153,21 +167,16 @@ module _ (k : Kind) (t : Table) (n p : ℕ) (up : risingFrom 0 (t .rules) ≡ tr
   out-behind zero h = absurd (omega arith)
   out-behind (suc q) h = removed-behind n noRule 0 (t .rules) up s q (omega arith)
 
-  pub take-rows : (rows : List ℕ) → rows ≡ rowsText k t → length (t .rules) ≤ 64 → upTo 975 (takeWord rows p) ≡ rowsText k (without n t)
-  unfolding rowsText
-  take-rows rows f m = upTo-same 975 (takeWord rows p) (rowsWord k (without n t)) (λ i h. by-test (ltb i (15 * p))
-      (λ u.
-      let a = ltb-true i (15 * p) u in
-      rw u (ap (λ l. getD l i 0) f ∙ rows-at k t i h ∙ ap (λ x. rowWord x (i % 15)) (sym (out-before (i / 15) (omega arith)))))
-      (λ u.
-      let a = ltb-false i (15 * p) u in
-      rw u (ap (λ l. getD l (i + 15) 0) f ∙ by-test (ltb (i + 15) 975)
-      (λ v.
-      let b = ltb-true (i + 15) 975 v in
-      let z : (i + 15) % 15 ≡ i % 15 = omega arith in
-      let y : (i + 15) / 15 ≡ suc (i / 15) = omega arith in
-      rows-at k t (i + 15) b ∙ rw (z, y, out-behind (i / 15) (omega arith)))
-      (λ v.
-      let b = ltb-false (i + 15) 975 v in
-      List·getD-eq-default (upTo 975 (rowsWord k t)) 0 {n = i + 15} (omega (arith, length-upTo 975 (rowsWord k t)))
-      ∙ sym (rw (placed-past k (without n t) (i / 15) (omega (arith, length-removed 0 n (t .rules) up s))) (row-none (i % 15)))))))
+  pub take-rows : (rows : List ℕ) → rows ≡ rowsText k t → length (t .rules) ≤ k .most → upTo (rowWords k) (takeWord (k .width) rows (k .width * p)) ≡ rowsText k (without n t)
+  take-rows rows f m = let w = k .width in rows-are k (without n t) (takeWord w rows (w * p)) (λ q j u v. by-test (ltb q p)
+      (λ a.
+      let z = ltb-true q p a in
+      rw (lt-ltb (w * q + j) (w * p) (omega (arith, row-ends w q p z)), f) (rows-at k t q j u v ∙ ap (λ x. rowWord x j) (sym (out-before q z))))
+      (λ a.
+      let z = ltb-false q p a in
+      let x : w * q + j + w ≡ w * suc q + j = omega arith in
+      rw (le-ltb (w * q + j) (w * p) (omega (arith, row-starts w p q z)), x, f) (by-test (ltb q (k .most))
+      (λ b. rows-at k t (suc q) j (omega (arith, ltb-true q (k .most) b)) v ∙ ap (λ x. rowWord x j) (sym (out-behind q z)))
+      (λ b.
+      let y : q ≡ k .most = omega (arith, ltb-false q (k .most) b) in
+      rows-past k t (w * suc q + j) (rw y (omega arith)) ∙ sym (rw (placed-past k (without n t) q (omega (arith, length-removed 0 n (t .rules) up s))) (row-none j))))))

@@ -1,22 +1,23 @@
 -- Laws of the rows: what stands at a word of them, and the steps of the loops that go through the rules and the fields.
 -- Assumes nothing.
-use mathlib.Core.Path.{_≡_, refl, sym, ap, ap₂, _∙_}
-use mathlib.Core.Bool.{Bool, true, false, cond, not, _&&_}
-use mathlib.Core.List.{List, [], _∷_, _++_, map}
-use Prim.Native.Nat.{ℕ, zero, suc, _+_, _-_, _*_, _/_, _%_, _≤_, _<_, min}
+use mathlib.Core.Path.{_≡_, refl, sym, ap, _∙_}
+use mathlib.Core.Bool.{Bool, true, false, not, _&&_}
+use mathlib.Core.List.{List, [], _∷_, map}
+use Prim.Native.Nat.{ℕ, zero, suc, _+_, _-_, _*_, _/_, _%_, _≤_, _<_}
 use native.Mathlib.Omega.{arith}
 use native.Mathlib.Numerals.{add-one}
 use lib.Dec.{ltb, leb, eqb}
 use lib.ListN.{length, getD, take, drop, set, List·getD-eq-default, drop-of-length-le}
 use lib.Seq.{drop-cons, take-suc-set}
-use borrow.Author.Tests.{ltb-true, ltb-false, eq-eqb, ne-eqb, eqb-true, eqb-false, le-leb, lt-leb}
+use borrow.Author.Tests.{ltb-true, ltb-false, lt-ltb, le-ltb, eq-eqb, ne-eqb, eqb-true, eqb-false, le-leb, lt-leb}
 use Rattle.model.specs.Lists.{same, upTo}
 use Rattle.model.specs.Rules.{rangesRight}
-use Rattle.model.specs.Table.{Kind, Rule, Table, fieldsFrom, defaultRule, risingFrom, allRight, ruleRight}
+use Rattle.model.specs.Table.{Kind, Rule, rowWords, fieldsFrom, defaultRule, risingFrom, allRight, ruleRight}
 use Rattle.model.proofs.Tests.{by-test, never}
-use Rattle.model.proofs.UpTo.{length-upTo, getD-upTo, upTo-is, same-refl, same-false, same-true}
-use Rattle.rows.specs.Rows.{numberOf, actionOf, lowOf, highOf}
-use Rattle.table.specs.Rows.{kindOf, noRule, rowWord, placed, rowsWord, rowsText, ruleIn, tableIn, places, Says, Right, Zeros}
+use Rattle.model.proofs.UpTo.{length-upTo, getD-upTo, same-false, true-same}
+use Rattle.model.proofs.Grid.{row-ends, getD-grid, grid-is}
+use Rattle.rows.specs.Rows.{numberIn, actionIn, lowIn, highIn}
+use Rattle.table.specs.Rows.{noRule, rowWord, placed, rowsText, ruleIn, tableIn, places, freshWord, Rowed, Tells, First, Zeros, Blank}
 
 -- the words of a rule's row
 pub row-number : (r : Rule) → rowWord r 0 ≡ r .number
@@ -73,17 +74,17 @@ row-none j = go (which j)
     go (is-high f e) = rw e (row-high noRule f)
 
 -- a row that holds a rule has that rule's words
-pub row-in : (n : ℕ) (rows : List ℕ) (p j : ℕ) → j < 2 + 2 * n → rowWord (ruleIn n rows p) j ≡ getD rows (15 * p + j) 0
+pub row-in : (n : ℕ) (rows : List ℕ) (p j : ℕ) → j < 2 + 2 * n → rowWord (ruleIn n rows p) j ≡ getD rows (p + j) 0
 row-in n rows p j h = go (which j)
   where
     R : Rule
     R = ruleIn n rows p
 
-    go : Word j → rowWord R j ≡ getD rows (15 * p + j) 0
-    go (is-number e) = let z : 15 * p + 0 ≡ 15 * p = omega arith in rw (e, z) (row-number R)
+    go : Word j → rowWord R j ≡ getD rows (p + j) 0
+    go (is-number e) = let z : p + 0 ≡ p = omega arith in rw (e, z) (row-number R)
     go (is-action e) = rw e (row-action R)
-    go (is-low f e) = rw e (row-low R f ∙ getD-upTo n (λ g. lowOf rows g p) f 0 (omega arith))
-    go (is-high f e) = rw e (row-high R f ∙ getD-upTo n (λ g. highOf rows g p) f 0 (omega arith))
+    go (is-low f e) = rw e (row-low R f ∙ getD-upTo n (λ g. lowIn rows g p) f 0 (omega arith))
+    go (is-high f e) = rw e (row-high R f ∙ getD-upTo n (λ g. highIn rows g p) f 0 (omega arith))
 
 -- and zeros behind its fields
 pub row-past : (n : ℕ) (rows : List ℕ) (p j : ℕ) → 2 + 2 * n ≤ j → rowWord (ruleIn n rows p) j ≡ 0
@@ -95,31 +96,31 @@ row-past n rows p j h = go (which j)
     go : Word j → rowWord R j ≡ 0
     go (is-number e) = absurd (omega arith)
     go (is-action e) = absurd (omega arith)
-    go (is-low f e) = rw e (row-low R f ∙ List·getD-eq-default (R .lows) 0 {n = f} (omega (arith, length-upTo n (λ g. lowOf rows g p))))
-    go (is-high f e) = rw e (row-high R f ∙ List·getD-eq-default (R .highs) 0 {n = f} (omega (arith, length-upTo n (λ g. highOf rows g p))))
+    go (is-low f e) = rw e (row-low R f ∙ List·getD-eq-default (R .lows) 0 {n = f} (omega (arith, length-upTo n (λ g. lowIn rows g p))))
+    go (is-high f e) = rw e (row-high R f ∙ List·getD-eq-default (R .highs) 0 {n = f} (omega (arith, length-upTo n (λ g. highIn rows g p))))
 
 -- the rules that the rows hold
 module _ (k : Kind) (n : ℕ) (rows : List ℕ) where
   pub rules-length : length (tableIn k n rows .rules) ≡ n
   unfolding tableIn
-  rules-length = length-upTo n (λ i. ruleIn (length (k .tops)) rows (suc i))
+  rules-length = length-upTo n (λ i. ruleIn (length (k .tops)) rows (k .width * suc i))
 
-  pub rules-at : (i : ℕ) (d : Rule) → i < n → getD (tableIn k n rows .rules) i d ≡ ruleIn (length (k .tops)) rows (suc i)
+  pub rules-at : (i : ℕ) (d : Rule) → i < n → getD (tableIn k n rows .rules) i d ≡ ruleIn (length (k .tops)) rows (k .width * suc i)
   unfolding tableIn
-  rules-at i d h = getD-upTo n (λ i. ruleIn (length (k .tops)) rows (suc i)) i d h
+  rules-at i d h = getD-upTo n (λ i. ruleIn (length (k .tops)) rows (k .width * suc i)) i d h
 
-  pub rules-from : (i : ℕ) → i < n → drop i (tableIn k n rows .rules) ≡ ruleIn (length (k .tops)) rows (suc i) ∷ drop (suc i) (tableIn k n rows .rules)
+  pub rules-from : (i : ℕ) → i < n → drop i (tableIn k n rows .rules) ≡ ruleIn (length (k .tops)) rows (k .width * suc i) ∷ drop (suc i) (tableIn k n rows .rules)
   rules-from i h = drop-cons (tableIn k n rows .rules) i noRule (omega (arith, rules-length)) ∙ rw (rules-at i noRule h)
 
   pub rules-done : (i : ℕ) → n ≤ i → drop i (tableIn k n rows .rules) ≡ []
   rules-done i h = drop-of-length-le (tableIn k n rows .rules) {i = i} (omega (arith, rules-length))
 
   -- the rule at a place
-  pub placed-default : placed k (tableIn k n rows) 0 ≡ defaultRule k (actionOf rows 0)
+  pub placed-default : placed k (tableIn k n rows) 0 ≡ defaultRule k (actionIn rows 0)
   unfolding placed tableIn
   placed-default = refl
 
-  pub placed-rule : (p : ℕ) → 0 < p → p ≤ n → placed k (tableIn k n rows) p ≡ ruleIn (length (k .tops)) rows p
+  pub placed-rule : (p : ℕ) → 0 < p → p ≤ n → placed k (tableIn k n rows) p ≡ ruleIn (length (k .tops)) rows (k .width * p)
   unfolding placed
   placed-rule zero l h = absurd (omega arith)
   placed-rule (suc p) l h = rules-at p noRule (omega arith)
@@ -129,42 +130,59 @@ module _ (k : Kind) (n : ℕ) (rows : List ℕ) where
   placed-none zero h = absurd (omega arith)
   placed-none (suc p) h = List·getD-eq-default (tableIn k n rows .rules) noRule {n = p} (omega (arith, rules-length))
 
-  -- what word i of the rows has to be
-  pub word-default : (i : ℕ) → i / 15 ≡ 0 → rowsWord k (tableIn k n rows) i ≡ rowWord (defaultRule k (getD rows 1 0)) (i % 15)
-  word-default i e = rw (e, placed-default)
+  -- the rows are those of the table that they hold exactly where the first is the default's, those of the rules have zeros behind their ends, and all others are zeros
+  module _ (r : Rowed k n rows) where
+    pub rows-made : First k rows → Blank (k .width) rows (2 + 2 * length (k .tops)) 1 (n + 1) → Blank (k .width) rows 0 (n + 1) (k .most + 1) → rows ≡ rowsText k (tableIn k n rows)
+    unfolding rowsText
+    rows-made d e z = grid-is 0 rows (k .width) (suc (k .most)) (λ p. rowWord (placed k (tableIn k n rows) p)) (r .whole) go
+      where
+        go : (p j : ℕ) → p < suc (k .most) → j < k .width → getD rows (k .width * p + j) 0 ≡ rowWord (placed k (tableIn k n rows) p) j
+        go zero j u v = let w : k .width * 0 + j ≡ j = omega arith in rw (w, placed-default) (d j v)
+        go (suc p) j u v = by-test (ltb p n)
+            (λ t. let a = ltb-true p n t in rw (placed-rule (suc p) (omega arith) (omega arith)) (by-test (ltb j (2 + 2 * length (k .tops)))
+            (λ s. sym (row-in (length (k .tops)) rows (k .width * suc p) j (ltb-true _ _ s)))
+            (λ s. let b = ltb-false j (2 + 2 * length (k .tops)) s in e (suc p) j (omega arith) (omega arith) b v ∙ sym (row-past (length (k .tops)) rows (k .width * suc p) j b))))
+            (λ t. let a = ltb-false p n t in z (suc p) j (omega arith) (omega arith) (omega arith) v ∙ sym (rw (placed-none (suc p) (omega arith)) (row-none j)))
 
-  pub word-none : (i : ℕ) → n < i / 15 → rowsWord k (tableIn k n rows) i ≡ 0
-  word-none i h = rw (placed-none (i / 15) h) (row-none (i % 15))
+    module _ (e : rows ≡ rowsText k (tableIn k n rows)) where
+      made-at : (p j : ℕ) → p < suc (k .most) → j < k .width → getD rows (k .width * p + j) 0 ≡ rowWord (placed k (tableIn k n rows) p) j
+      unfolding rowsText
+      made-at p j u v = ap (λ ys. getD ys (k .width * p + j) 0) e ∙ getD-grid (k .width) (suc (k .most)) (λ q. rowWord (placed k (tableIn k n rows) q)) p j 0 u v
 
-  pub word-past : (i : ℕ) → 0 < i / 15 → i / 15 ≤ n → 2 + 2 * length (k .tops) ≤ i % 15 → rowsWord k (tableIn k n rows) i ≡ 0
-  word-past i a b h = rw (placed-rule (i / 15) a b) (row-past (length (k .tops)) rows (i / 15) (i % 15) h)
+      pub made-first : First k rows
+      made-first j v = let w : k .width * 0 + j ≡ j = omega arith in rw (w, placed-default) at (made-at 0 j (omega arith) v)
 
-  pub word-rule : (i : ℕ) → 0 < i / 15 → i / 15 ≤ n → i % 15 < 2 + 2 * length (k .tops) → rowsWord k (tableIn k n rows) i ≡ getD rows i 0
-  word-rule i a b h =
-      let z : 15 * (i / 15) + i % 15 ≡ i = omega arith in
-      rw (placed-rule (i / 15) a b) (row-in (length (k .tops)) rows (i / 15) (i % 15) h ∙ rw z)
+      pub made-ends : Blank (k .width) rows (2 + 2 * length (k .tops)) 1 (n + 1)
+      made-ends p j a b c v = made-at p j (omega (arith, r .fit)) v ∙ rw (placed-rule p (omega arith) (omega arith)) (row-past (length (k .tops)) rows (k .width * p) j c)
 
-  -- the comparison word by word
-  pub rows-same : length rows ≡ 975 → ((i : ℕ) → i < 975 → getD rows i 0 ≡ rowsWord k (tableIn k n rows) i) → true ≡ same rows (rowsText k (tableIn k n rows))
-  unfolding rowsText
-  rows-same l h = let z = upTo-is 0 rows 975 (rowsWord k (tableIn k n rows)) l h in sym (ap (λ ys. same rows ys) (sym z) ∙ same-refl rows)
+      pub made-rest : Blank (k .width) rows 0 (n + 1) (k .most + 1)
+      made-rest p j a b c v = made-at p j (omega arith) v ∙ rw (placed-none p (omega arith)) (row-none j)
 
-  pub rows-differ : (i : ℕ) → i < 975 → (getD rows i 0 ≡ rowsWord k (tableIn k n rows) i → ⊥) → false ≡ same rows (rowsText k (tableIn k n rows))
-  unfolding rowsText
-  rows-differ i l h = sym (same-false rows (upTo 975 (rowsWord k (tableIn k n rows))) (λ e. h (ap (λ ys. getD ys i 0) e ∙ getD-upTo 975 (rowsWord k (tableIn k n rows)) i 0 l)))
+    rows-not : (rows ≡ rowsText k (tableIn k n rows) → ⊥) → false ≡ same rows (rowsText k (tableIn k n rows))
+    rows-not h = sym (same-false rows _ h)
+
+    pub wrong-first : (First k rows → ⊥) → false ≡ same rows (rowsText k (tableIn k n rows))
+    wrong-first h = rows-not (λ e. h (made-first e))
+
+    pub wrong-ends : (Blank (k .width) rows (2 + 2 * length (k .tops)) 1 (n + 1) → ⊥) → false ≡ same rows (rowsText k (tableIn k n rows))
+    wrong-ends h = rows-not (λ e. h (made-ends e))
+
+    pub rows-rest : First k rows → Blank (k .width) rows (2 + 2 * length (k .tops)) 1 (n + 1) → (b : Bool) → Tells b (Blank (k .width) rows 0 (n + 1) (k .most + 1)) → b ≡ same rows (rowsText k (tableIn k n rows))
+    rows-rest d e true s = sym (true-same rows _ (rows-made d e (s .0 refl)))
+    rows-rest d e false s = rows-not (λ q. s .1 refl (made-rest q))
 
 -- what the inner tests answer
-pub says-yes : {P : Type 0} → P → Says true P
+pub says-yes : {P : Type 0} → P → Tells true P
 says-yes p = (λ e. p, λ e. absurd (never e))
 
-pub says-no : {P : Type 0} → (P → ⊥) → Says false P
+pub says-no : {P : Type 0} → (P → ⊥) → Tells false P
 says-no h = (λ e. absurd (never (sym e)), λ e. h)
 
-pub said-yes : {P : Type 0} (r : Bool) → Says r P → not r ≡ false → P
+pub said-yes : {P : Type 0} (r : Bool) → Tells r P → not r ≡ false → P
 said-yes true s e = s .0 refl
 said-yes false s e = absurd (never e)
 
-pub said-no : {P : Type 0} (r : Bool) → Says r P → not r ≡ true → P → ⊥
+pub said-no : {P : Type 0} (r : Bool) → Tells r P → not r ≡ true → P → ⊥
 said-no true s e = absurd (never (sym e))
 said-no false s e = s .1 refl
 
@@ -173,49 +191,39 @@ more : (f g : ℕ → ℕ) (a i : ℕ) → ((j : ℕ) → a ≤ j → j < i → 
 more f g a i h e j l u =
     by-test (ltb j i) (λ t. h j l (ltb-true j i t)) (λ t. let z : j ≡ i = omega (arith, ltb-false j i t) in rw z e)
 
-pub right-more : (rows tops : List ℕ) (n a i : ℕ) → Right rows tops n a i → getD rows i 0 ≡ rowsWord (kindOf tops) (tableIn (kindOf tops) n rows) i → Right rows tops n a (i + 1)
-right-more rows tops n a i h e = more (λ j. getD rows j 0) (rowsWord (kindOf tops) (tableIn (kindOf tops) n rows)) a i h e
-
 pub zeros-more : (rows : List ℕ) (a i : ℕ) → ((j : ℕ) → a ≤ j → j < i → getD rows j 0 ≡ 0) → getD rows i 0 ≡ 0 → (j : ℕ) → a ≤ j → j < i + 1 → getD rows j 0 ≡ 0
 zeros-more rows a i h e = more (λ j. getD rows j 0) (λ j. 0) a i h e
 
--- the rows of the rules, one row more
-module _ (rows tops : List ℕ) (n p : ℕ) (h : p < n) where
-  skip : (i : ℕ) → 15 * p + 15 ≤ i → i < 15 * (p + 1) + (2 + 2 * length tops) → length tops ≤ 6 → getD rows i 0 ≡ rowsWord (kindOf tops) (tableIn (kindOf tops) n rows) i
-  skip i a b c = sym (word-rule (kindOf tops) n rows i (omega arith) (omega arith) (omega arith))
+-- the first row, one word more
+pub first-more : (k : Kind) (rows : List ℕ) (i : ℕ) → ((j : ℕ) → j < i → getD rows j 0 ≡ rowWord (defaultRule k (getD rows 1 0)) j) → getD rows i 0 ≡ rowWord (defaultRule k (getD rows 1 0)) i → (j : ℕ) → j < i + 1 → getD rows j 0 ≡ rowWord (defaultRule k (getD rows 1 0)) j
+first-more k rows i h e j l = more (λ j. getD rows j 0) (rowWord (defaultRule k (getD rows 1 0))) 0 i (λ j a b. h j b) e j (omega arith) l
 
-  pub rules-on : length tops ≤ 6 → Right rows tops n 15 (15 * p + 15) → Right rows tops n (15 * (p + 1) + (2 + 2 * length tops)) (15 * (p + 1) + 15) → Right rows tops n 15 (15 * (p + 1) + 15)
-  rules-on c a b i l g =
-      by-test (ltb i (15 * p + 15)) (λ t. a i l (ltb-true i (15 * p + 15) t)) (λ t.
-      by-test (ltb i (15 * (p + 1) + (2 + 2 * length tops)))
-      (λ u. skip i (ltb-false i (15 * p + 15) t) (ltb-true i (15 * (p + 1) + (2 + 2 * length tops)) u) c)
-      (λ u. b i (ltb-false i (15 * (p + 1) + (2 + 2 * length tops)) u) g))
+-- one row more, and one row that is not blank
+module _ (w : ℕ) (rows : List ℕ) (u at p : ℕ) (e : at ≡ w * p) where
+  pub blank-on : (a : ℕ) → Blank w rows u a p → Zeros rows (at + u) (at + w) → Blank w rows u a (p + 1)
+  blank-on a h z q j l g v x = by-test (ltb q p) (λ t. h q j l (ltb-true q p t) v x) (λ t.
+      let y : q ≡ p = omega (arith, ltb-false q p t) in rw y (z (w * p + j) (omega arith) (omega arith)))
 
--- the whole rows from their parts: the default's row, the rows of m rules, and zeros
-module _ (rows tops : List ℕ) (n m : ℕ) (l : length rows ≡ 975) (q : m ≡ min n 64) where
-  none-behind : (i : ℕ) → 15 * m + 15 ≤ i → i < 975 → rowsWord (kindOf tops) (tableIn (kindOf tops) n rows) i ≡ 0
-  none-behind i a b = word-none (kindOf tops) n rows i (omega arith)
+  pub blank-not : (a b : ℕ) → a ≤ p → p < b → (Zeros rows (at + u) (at + w) → ⊥) → Blank w rows u a b → ⊥
+  blank-not a b l g n h = n (λ i x y. let z : w * p + (i - at) ≡ i = omega arith in rw z at (h p (i - at) l g (omega arith) (omega arith)))
 
-  pub rows-wrong : (a b : ℕ) → b ≤ 975 → (Right rows tops n a b → ⊥) → false ≡ same rows (rowsText (kindOf tops) (tableIn (kindOf tops) n rows))
-  unfolding rowsText
-  rows-wrong a b u h =
-      let W = rowsWord (kindOf tops) (tableIn (kindOf tops) n rows) in
-      sym (same-false rows (upTo 975 W) (λ e. h (λ i v w. ap (λ ys. getD ys i 0) e ∙ getD-upTo 975 W i 0 (omega arith))))
-
-  pub rows-rest : Right rows tops n 0 15 → Right rows tops n 15 (15 * m + 15) → (r : Bool) → Says r (Zeros rows (15 * m + 15)) → r ≡ same rows (rowsText (kindOf tops) (tableIn (kindOf tops) n rows))
-  rows-rest d e true s = rows-same (kindOf tops) n rows l (λ i v.
-      by-test (ltb i 15) (λ t. d i (omega arith) (ltb-true i 15 t)) (λ t.
-      by-test (ltb i (15 * m + 15)) (λ u. e i (ltb-false i 15 t) (ltb-true i (15 * m + 15) u)) (λ u.
-      s .0 refl i (ltb-false i (15 * m + 15) u) v ∙ sym (none-behind i (ltb-false i (15 * m + 15) u) v))))
-  rows-rest d e false s = rows-wrong (15 * m + 15) 975 (omega arith) (λ h. s .1 refl (λ i a b. h i a b ∙ none-behind i a b))
+-- the rows of the default alone
+pub fresh-rows : (k : Kind) (a : ℕ) → upTo (rowWords k) (freshWord k a) ≡ rowsText k (record { action = a; rules = [] })
+unfolding rowsText placed
+fresh-rows k a = grid-is 0 (upTo (rowWords k) (freshWord k a)) (k .width) (suc (k .most)) (λ p. rowWord (placed k (record { action = a; rules = [] }) p)) (length-upTo _ _) (λ p j u v.
+    getD-upTo (rowWords k) (freshWord k a) (k .width * p + j) 0 (omega (arith, row-ends (k .width) p (suc (k .most)) u)) ∙ go p j v)
+  where
+    go : (p j : ℕ) → j < k .width → freshWord k a (k .width * p + j) ≡ rowWord (placed k (record { action = a; rules = [] }) p) j
+    go zero j v = let w : k .width * 0 + j ≡ j = omega arith in rw (w, lt-ltb j (k .width) v)
+    go (suc p) j v = rw (le-ltb (k .width * suc p + j) (k .width) (omega arith)) (sym (row-none j))
 
 -- Going through the rules: p of them are done, x is the number of the next one.
-module _ (k : Kind) (n : ℕ) (rows : List ℕ) (p x : ℕ) (h : p < n) (e : x ≡ numberOf rows (p + 1)) where
+module _ (k : Kind) (n : ℕ) (rows : List ℕ) (p x at : ℕ) (h : p < n) (q : at ≡ k .width * (p + 1)) (e : x ≡ numberIn rows at) where
   abbrev R : List Rule
   R = tableIn k n rows .rules
 
-  e' : numberOf rows (suc p) ≡ x
-  e' = sym (rw (add-one p) at e)
+  e' : numberIn rows (k .width * suc p) ≡ x
+  e' = sym (rw (q, add-one p) at e)
 
   -- rising numbers
   rising-is : (b : ℕ) → risingFrom b (drop p R) ≡ (leb b x && (leb x 65534 && risingFrom (suc x) (drop (suc p) R)))
@@ -238,11 +246,11 @@ module _ (rows : List ℕ) (place : ℕ) (tops : List ℕ) where
   pub right-end : (f : ℕ) → length tops ≤ f → RightFrom f ≡ true
   right-end f h = rw (drop-of-length-le tops {i = f} h)
 
-  module _ (f l g : ℕ) (h : f < length tops) (el : l ≡ lowOf rows f place) (eg : g ≡ highOf rows f place) where
+  module _ (f l g : ℕ) (h : f < length tops) (el : l ≡ lowIn rows f place) (eg : g ≡ highIn rows f place) where
     right-is : RightFrom f ≡ (leb l g && (leb g (getD tops f 0) && rangesRight (fieldsFrom (suc f) (drop (suc f) tops)) (ruleIn (length tops) rows place)))
     right-is =
-        let a : getD (upTo (length tops) (λ i. lowOf rows i place)) f 0 ≡ l = getD-upTo (length tops) (λ i. lowOf rows i place) f 0 h ∙ sym el in
-        let b : getD (upTo (length tops) (λ i. highOf rows i place)) f 0 ≡ g = getD-upTo (length tops) (λ i. highOf rows i place) f 0 h ∙ sym eg in
+        let a : getD (upTo (length tops) (λ i. lowIn rows i place)) f 0 ≡ l = getD-upTo (length tops) (λ i. lowIn rows i place) f 0 h ∙ sym el in
+        let b : getD (upTo (length tops) (λ i. highIn rows i place)) f 0 ≡ g = getD-upTo (length tops) (λ i. highIn rows i place) f 0 h ∙ sym eg in
         rw (drop-cons tops f 0 h, a, b)
 
     pub right-crossed : g < l → RightFrom f ≡ false
@@ -258,36 +266,36 @@ module _ (rows : List ℕ) (place : ℕ) (tops : List ℕ) where
 pub rule-right : (k : Kind) (rows : List ℕ) (p : ℕ) → ruleRight k (ruleIn (length (k .tops)) rows p) ≡ rangesRight (fieldsFrom 0 (k .tops)) (ruleIn (length (k .tops)) rows p)
 rule-right k rows p =
     let n = length (k .tops) in
-    rw (eq-eqb (length (upTo n (λ f. lowOf rows f p))) n (length-upTo n (λ f. lowOf rows f p)), eq-eqb (length (upTo n (λ f. highOf rows f p))) n (length-upTo n (λ f. highOf rows f p)))
+    rw (eq-eqb (length (upTo n (λ f. lowIn rows f p))) n (length-upTo n (λ f. lowIn rows f p)), eq-eqb (length (upTo n (λ f. highIn rows f p))) n (length-upTo n (λ f. highIn rows f p)))
 
-module _ (k : Kind) (n : ℕ) (rows : List ℕ) (p : ℕ) (h : p < n) (b : Bool) (e : b ≡ rangesRight (fieldsFrom 0 (k .tops)) (ruleIn (length (k .tops)) rows (p + 1))) where
+module _ (k : Kind) (n : ℕ) (rows : List ℕ) (p at : ℕ) (h : p < n) (q : at ≡ k .width * (p + 1)) (b : Bool) (e : b ≡ rangesRight (fieldsFrom 0 (k .tops)) (ruleIn (length (k .tops)) rows at)) where
   all-is : allRight k (drop p (tableIn k n rows .rules)) ≡ (b && allRight k (drop (suc p) (tableIn k n rows .rules)))
-  all-is = rw (rules-from k n rows p h) (ap (λ x. x && allRight k (drop (suc p) (tableIn k n rows .rules))) (rule-right k rows (suc p) ∙ sym (rw (add-one p) at e)))
+  all-is = rw (rules-from k n rows p h) (ap (λ x. x && allRight k (drop (suc p) (tableIn k n rows .rules))) (rule-right k rows (k .width * suc p) ∙ sym (rw (q, add-one p) at e)))
 
   pub all-wrong : b ≡ false → allRight k (drop p (tableIn k n rows .rules)) ≡ false
-  all-wrong q = all-is ∙ rw q
+  all-wrong f = all-is ∙ rw f
 
   pub all-on : b ≡ true → allRight k (drop p (tableIn k n rows .rules)) ≡ allRight k (drop (p + 1) (tableIn k n rows .rules))
-  all-on q = all-is ∙ rw (q, add-one p)
+  all-on f = all-is ∙ rw (f, add-one p)
 
 -- the default's row: every low end is 0, every high end is its field's top
-module _ (tops : List ℕ) (a j : ℕ) (z : j ≡ 0 → ⊥) (o : j ≡ 1 → ⊥) where
-  pub default-low : j % 2 ≡ 0 → rowWord (defaultRule (kindOf tops) a) j ≡ 0
+module _ (k : Kind) (a j : ℕ) (z : j ≡ 0 → ⊥) (o : j ≡ 1 → ⊥) where
+  pub default-low : j % 2 ≡ 0 → rowWord (defaultRule k a) j ≡ 0
   default-low e =
       let d : j ≡ 2 + 2 * (j / 2 - 1) = omega arith in
-      ap (rowWord (defaultRule (kindOf tops) a)) d ∙ row-low (defaultRule (kindOf tops) a) (j / 2 - 1) ∙ zeros tops (j / 2 - 1)
+      ap (rowWord (defaultRule k a)) d ∙ row-low (defaultRule k a) (j / 2 - 1) ∙ zeros (k .tops) (j / 2 - 1)
     where
       zeros : (ts : List ℕ) (i : ℕ) → _≡_ {A = ℕ} (getD (map (λ t. 0) ts) i 0) 0
       zeros [] i = refl
       zeros (t ∷ ts) zero = refl
       zeros (t ∷ ts) (suc i) = zeros ts i
 
-  pub default-high : (j % 2 ≡ 0 → ⊥) → rowWord (defaultRule (kindOf tops) a) j ≡ getD tops (j / 2 - 1) 0
+  pub default-high : (j % 2 ≡ 0 → ⊥) → rowWord (defaultRule k a) j ≡ getD (k .tops) (j / 2 - 1) 0
   default-high e =
       let d : j ≡ 3 + 2 * (j / 2 - 1) = omega arith in
-      ap (rowWord (defaultRule (kindOf tops) a)) d ∙ row-high (defaultRule (kindOf tops) a) (j / 2 - 1)
+      ap (rowWord (defaultRule k a)) d ∙ row-high (defaultRule k a) (j / 2 - 1)
 
 -- all places: 1 to n are written, and then the default's
-pub places-end : (n : ℕ) (out : List ℕ) → n < length out → take n out ≡ upTo n suc → take (n + 1) (set out n 0) ≡ places n
+pub places-end : (w n : ℕ) (out : List ℕ) → n < length out → take n out ≡ upTo n (λ i. w * suc i) → take (n + 1) (set out n 0) ≡ places w n
 unfolding places
-places-end n out h e = rw (add-one n, take-suc-set out n 0 h, e)
+places-end w n out h e = rw (add-one n, take-suc-set out n 0 h, e)

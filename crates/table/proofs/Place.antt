@@ -3,16 +3,19 @@
 use mathlib.Core.Path.{_≡_, sym, ap, _∙_}
 use mathlib.Core.Bool.{Bool, true, false, cond}
 use mathlib.Core.List.{List, [], _∷_}
-use Prim.Native.Nat.{ℕ, zero, suc, _-_, _≤_, _<_}
+use Prim.Native.Nat.{ℕ, zero, suc, _+_, _-_, _*_, _≤_, _<_}
 use native.Mathlib.Omega.{arith}
-use lib.Dec.{ltb}
+use native.Mathlib.Numerals.{add-one}
+use lib.Dec.{ltb, eqb}
 use lib.ListN.{length, getD}
-use borrow.Author.Tests.{lt-ltb, le-ltb}
-use Rattle.model.specs.Table.{Kind, Rule, risingFrom}
+use borrow.Author.Tests.{lt-ltb, le-ltb, eqb-true, eq-eqb}
+use Rattle.model.specs.Table.{Kind, Rule, risingFrom, stands}
+use Rattle.model.proofs.Tests.{by-test, same-test}
 use Rattle.model.proofs.Limits.{rises}
-use Rattle.rows.specs.Rows.{numberOf}
+use Rattle.rows.specs.Rows.{numberIn}
 use Rattle.table.specs.Rows.{noRule, tableIn, ahead}
 use Rattle.table.proofs.Laws.{rules-length, rules-at}
+use Rattle.table.proofs.Edits.{at-stands, stands-at}
 
 module _ (x : ℕ) where
   one-more : (b : Bool) (a i : ℕ) → a ≤ i → cond b (suc a) 0 ≤ suc i
@@ -37,12 +40,27 @@ module _ (x : ℕ) where
       (omega arith, rw (lt-ltb (r .number) x (omega arith)) (omega arith))
 
 -- y is the number of the rule at place p
-module _ (k : Kind) (n : ℕ) (rows : List ℕ) (p y : ℕ) (o : 0 < p) (l : p ≤ n) (e : y ≡ numberOf rows p) (x : ℕ) where
+module _ (k : Kind) (n : ℕ) (rows : List ℕ) (p y at : ℕ) (o : 0 < p) (l : p ≤ n) (q : at ≡ k .width * p) (e : y ≡ numberIn rows at) (x : ℕ) where
   here : getD (tableIn k n rows .rules) (p - 1) noRule .number ≡ y
-  here = let z : suc (p - 1) ≡ p = omega arith in ap (λ r. r .number) (rules-at k n rows (p - 1) noRule (omega arith)) ∙ ap (numberOf rows) z ∙ sym e
+  here = let z : suc (p - 1) ≡ p = omega arith in ap (λ r. r .number) (rules-at k n rows (p - 1) noRule (omega arith)) ∙ ap (λ i. numberIn rows (k .width * i)) z ∙ sym (rw q at e)
 
   pub none-here : x ≤ y → ahead x (tableIn k n rows .rules) ≤ p - 1
   none-here h = ahead-most x (tableIn k n rows .rules) (p - 1) (omega (arith, here))
 
   pub all-here : risingFrom 0 (tableIn k n rows .rules) ≡ true → y < x → p ≤ ahead x (tableIn k n rows .rules)
   all-here up h = omega (arith, ahead-least x 0 (tableIn k n rows .rules) (p - 1) up (omega (arith, rules-length k n rows)) (omega (arith, here)) .1)
+
+-- whether a number stands, by the rule behind those that are ahead of it
+module _ (k : Kind) (n : ℕ) (rows : List ℕ) (p x : ℕ) (up : risingFrom 0 (tableIn k n rows .rules) ≡ true) (e : p ≡ ahead x (tableIn k n rows .rules)) where
+  pub none-behind : n ≤ p → false ≡ stands x (tableIn k n rows .rules)
+  none-behind h = by-test (stands x (tableIn k n rows .rules))
+      (λ t. absurd (omega (arith, at-stands x noRule 0 (tableIn k n rows .rules) up t .0, rules-length k n rows)))
+      (λ t. sym t)
+
+  pub number-behind : p < n → (y at : ℕ) → at ≡ k .width * (p + 1) → y ≡ numberIn rows at → eqb y x ≡ stands x (tableIn k n rows .rules)
+  number-behind h y at f q =
+      let R = tableIn k n rows .rules in
+      let z : y ≡ getD R (ahead x R) noRule .number = q ∙ rw (f, add-one p) (sym (ap (λ r. r .number) (ap (λ i. getD R i noRule) (sym e) ∙ rules-at k n rows p noRule h))) in
+      same-test (eqb y x) (stands x R)
+      (λ t. stands-at x noRule R (omega (arith, rules-length k n rows)) (sym z ∙ eqb-true y x t))
+      (λ t. eq-eqb y x (z ∙ at-stands x noRule 0 R up t .1))

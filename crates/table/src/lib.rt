@@ -1,22 +1,23 @@
-// The table of a store in its rows: 65 rows of 15 words, the default's first, then the rules by rising number, then rows of zeros. Read, held to the limits, searched, and edited by making the rows anew beside the old ones.
+// The table of a store in its rows: as many and as wide as its kind says, the default's first, then the rules by rising number, then rows of zeros. Read, held to the limits, searched, and edited where they stand.
 ghost use mathlib.Core.Path.{_≡_};
-ghost use mathlib.Core.Bool.{true};
+ghost use mathlib.Core.Bool.{true, _&&_};
 ghost use mathlib.Core.List.{[]};
-ghost use Prim.Native.Nat.{_+_, _-_, _*_, _≤_, _<_, min};
+ghost use Prim.Native.Nat.{suc, _+_, _-_, _*_, _%_, _≤_, _<_};
+ghost use lib.Dec.{leb, eqb};
 ghost use lib.ListN.{length, getD, take};
 ghost use Rattle.model.specs.Lists.{same, upTo};
 ghost use Rattle.model.specs.Rules.{rangesRight};
-ghost use Rattle.model.specs.Table.{defaultRule, fieldsFrom, risingFrom, allRight};
-ghost use Rattle.rows.specs.Rows.{numberOf, actionOf};
-ghost use Rattle.table.specs.Rows.{kindOf, given, rowWord, rowsWord, rowsText, ruleIn, tableIn, places as placesOf, ahead, putWord, takeWord, Copied, Says, Right, Zeros};
+ghost use Rattle.model.specs.Table.{rowWords, defaultRule, stands, fieldsFrom, risingFrom, allRight};
+ghost use Rattle.rows.specs.Rows.{numberIn, actionIn, lowIn, highIn};
+ghost use Rattle.table.specs.Rows.{kindOf, Raised, rowWord, rowsText, ruleIn, tableIn, places as placesOf, ahead, putWord, takeWord, freshWord, Rowed, Copied, Tells, First, Zeros, Blank};
 
-// A rule: five low ends and five high ends besides its number and its action.
-#[repr(C)]
-pub struct Rule {
-    pub number: u32,
-    pub action: u32,
-    pub low: [u32; 5],
-    pub high: [u32; 5],
+// What the layout of a store goes by, besides the tops of its fields: which field is the destination port's, how many rules it takes, the words of a row, the words before the rows, and what word 2 says.
+pub struct Shape {
+    pub ports: u32,
+    pub most: u32,
+    pub width: u32,
+    pub head: u32,
+    pub mark: u32,
 }
 
 // The word at a place of the rows; behind the last one 0.
@@ -27,8 +28,8 @@ fn word(rows: &[u32], i: usize) -> u32
 }
 
 // What word j of the default's row has to be, where its action is given: number 65,535, and the whole range of each field.
-fn default_word(action: u32, tops: &[u32], j: usize) -> u32
-    ensures { λ r. ⌜ r ≡ rowWord (defaultRule (kindOf (now (tops .entry))) action) j ⌝ }
+fn default_word(action: u32, tops: &[u32], j: usize, shape: Shape) -> u32
+    ensures { λ r. ⌜ r ≡ rowWord (defaultRule (kindOf (now (tops .entry)) shape) action) j ⌝ }
 {
     if j == 0 {
         return 65535;
@@ -42,63 +43,61 @@ fn default_word(action: u32, tops: &[u32], j: usize) -> u32
     word(tops, j / 2 - 1)
 }
 
-// What word i of the rows of n rules has to be: the default's row is its own; in a rule's row the words of its number, action and ends are what they are, and all else is 0.
-fn rows_word(rows: &[u32], n: u32, tops: &[u32], i: usize) -> u32
-    requires { ⌜ (i < 975) × (length (now tops) ≤ 6) ⌝ }
-    ensures { λ r. ⌜ r ≡ rowsWord (kindOf (now (tops .entry))) (tableIn (kindOf (now (tops .entry))) n (now (rows .entry))) i ⌝ }
+// Where a row begins.
+pub fn row_start(width: u32, place: u32) -> u32
+    requires { ⌜ (width ≤ 31) × (place ≤ 513) ⌝ }
+    ensures { λ r. ⌜ (r ≡ width * place) × (r ≤ 15903) ⌝ }
 {
-    let p = i / 15;
-    let j = i % 15;
-    if p == 0 {
-        return default_word(word(rows, 1), tops, j);
-    }
-    if (n as usize) < p {
-        return 0;
-    }
-    if 2 + 2 * tops.len() <= j {
-        return 0;
-    }
-    word(rows, i)
+    width * place
 }
 
-// Whether the words from a place up to another are what they have to be.
-fn words_are(rows: &[u32], n: u32, tops: &[u32], from: usize, to: usize) -> bool
-    requires { ⌜ (length (now rows) ≡ 975) × (length (now tops) ≤ 6) × (from ≤ to) × (to ≤ 975) ⌝ }
-    ensures { λ r. ⌜ Says r (Right (now (rows .entry)) (now (tops .entry)) n from to) ⌝ }
+// How many words stand before the two links: the head and the rows.
+pub fn rows_end(shape: Shape) -> u32
+    requires { ⌜ (shape .width ≤ 31) × (shape .most ≤ 512) × (shape .head ≤ 512) ⌝ }
+    ensures { λ r. ⌜ (r ≡ shape .head + shape .width * suc (shape .most)) × (r ≤ 16415) ⌝ }
+{
+    shape.head + row_start(shape.width, shape.most + 1)
+}
+
+// Whether one of n rows behind the default's, or the default's, begins at a word.
+pub fn begins(shape: Shape, n: u32, at: u32) -> bool
+    requires { ⌜ (2 ≤ shape .width) × (shape .width ≤ 31) × (shape .most ≤ 512) ⌝ }
+    ensures { λ r. ⌜ r ≡ (leb at (shape .width * shape .most) && (leb at (shape .width * n) && eqb (at % shape .width) 0)) ⌝ }
+{
+    let width = shape.width;
+    if row_start(width, shape.most) < at {
+        return false;
+    }
+    if (width as usize) * (n as usize) < (at as usize) {
+        return false;
+    }
+    at % width == 0
+}
+
+// Whether the first row is the default's.
+fn first_is(rows: &[u32], tops: &[u32], shape: Shape) -> bool
+    requires { ⌜ (shape .width ≤ length (now rows)) × (2 ≤ shape .width) ⌝ }
+    ensures { λ r. ⌜ Tells r (First (kindOf (now (tops .entry)) shape) (now (rows .entry))) ⌝ }
+{
+    let width = shape.width as usize;
+    let action = rows[1];
+    let mut j: usize = 0;
+    while j < width {
+        if rows[j] != default_word(action, tops, j, shape) {
+            return false;
+        }
+        j += 1;
+    }
+    true
+}
+
+// Whether the words from a place up to another are 0.
+pub fn zeros(rows: &[u32], from: usize, to: usize) -> bool
+    requires { ⌜ (from ≤ to) × (to ≤ length (now rows)) ⌝ }
+    ensures { λ r. ⌜ Tells r (Zeros (now (rows .entry)) from to) ⌝ }
 {
     let mut i = from;
     while i < to {
-        if rows[i] != rows_word(rows, n, tops, i) {
-            return false;
-        }
-        i += 1;
-    }
-    true
-}
-
-// Whether the rows of m rules behind the default's are what they have to be: only what follows the ends can differ.
-fn rules_are(rows: &[u32], n: u32, tops: &[u32], m: u32) -> bool
-    requires { ⌜ (length (now rows) ≡ 975) × (length (now tops) ≤ 6) × (m ≤ 64) × (m ≤ n) ⌝ }
-    ensures { λ r. ⌜ Says r (Right (now (rows .entry)) (now (tops .entry)) n 15 (15 * m + 15)) ⌝ }
-{
-    let mut p: u32 = 0;
-    while p < m {
-        p += 1;
-        let row = 15 * (p as usize);
-        if !words_are(rows, n, tops, row + (2 + 2 * tops.len()), row + 15) {
-            return false;
-        }
-    }
-    true
-}
-
-// Whether all words from a place on are 0.
-fn zeros(rows: &[u32], from: usize) -> bool
-    requires { ⌜ (length (now rows) ≡ 975) × (from ≤ 975) ⌝ }
-    ensures { λ r. ⌜ Says r (Zeros (now (rows .entry)) from) ⌝ }
-{
-    let mut i = from;
-    while i < 975 {
         if rows[i] != 0 {
             return false;
         }
@@ -107,52 +106,75 @@ fn zeros(rows: &[u32], from: usize) -> bool
     true
 }
 
-// How many rows of n rules there are: 64 at most.
-fn fitting(n: u32) -> u32
-    ensures { λ r. ⌜ r ≡ min n 64 ⌝ }
+// Whether the rows from one place up to another have zeros from a word on.
+fn blank(rows: &[u32], width: u32, used: u32, from: u32, to: u32) -> bool
+    requires { ⌜ (width ≤ 31) × (used ≤ width) × (from ≤ to) × (to ≤ 513) × (width * to ≤ length (now rows)) ⌝ }
+    ensures { λ r. ⌜ Tells r (Blank width (now (rows .entry)) used from to) ⌝ }
 {
-    if n < 64 { n } else { 64 }
+    let mut p = from;
+    while p < to {
+        let at = row_start(width, p);
+        if !zeros(rows, (at + used) as usize, (at + width) as usize) {
+            return false;
+        }
+        p += 1;
+    }
+    true
 }
 
-// Whether the rows are those of the table that they hold, where it has n rules: the default's row is right, and every word that is not a rule's is 0.
-pub fn rows_are(rows: &[u32], n: u32, tops: &[u32]) -> bool
-    requires { ⌜ (length (now rows) ≡ 975) × (length (now tops) ≤ 6) ⌝ }
-    ensures { λ r. ⌜ r ≡ same (now (rows .entry)) (rowsText (kindOf (now (tops .entry))) (tableIn (kindOf (now (tops .entry))) n (now (rows .entry)))) ⌝ }
+// Whether the rows are those of the table of n rules that they hold: the default's row is right, and every word that is not a rule's is 0.
+pub fn rows_are(rows: &[u32], n: u32, tops: &[u32], shape: Shape) -> bool
+    requires { ⌜ Rowed (kindOf (now tops) shape) n (now rows) ⌝ }
+    ensures { λ r. ⌜ r ≡ same (now (rows .entry)) (rowsText (kindOf (now (tops .entry)) shape) (tableIn (kindOf (now (tops .entry)) shape) n (now (rows .entry)))) ⌝ }
 {
-    if !words_are(rows, n, tops, 0, 15) {
+    if !first_is(rows, tops, shape) {
         return false;
     }
-    let m = fitting(n);
-    if !rules_are(rows, n, tops, m) {
+    let used = 2 + 2 * (tops.len() as u32);
+    if !blank(rows, shape.width, used, 1, n + 1) {
         return false;
     }
-    zeros(rows, 15 * (m as usize) + 15)
+    blank(rows, shape.width, 0, n + 1, shape.most + 1)
 }
 
-// The number of the rule at a place.
+// The number of the rule whose row begins at a word.
 pub fn number(rows: &[u32], place: u32) -> u32
-    ensures { λ r. ⌜ r ≡ numberOf (now (rows .entry)) place ⌝ }
+    ensures { λ r. ⌜ r ≡ numberIn (now (rows .entry)) place ⌝ }
 {
-    word(rows, 15 * (place as usize))
+    word(rows, place as usize)
 }
 
-// The action of the rule at a place.
+// The action of the rule whose row begins at a word.
 pub fn action(rows: &[u32], place: u32) -> u32
-    ensures { λ r. ⌜ r ≡ actionOf (now (rows .entry)) place ⌝ }
+    ensures { λ r. ⌜ r ≡ actionIn (now (rows .entry)) place ⌝ }
 {
-    word(rows, 15 * (place as usize) + 1)
+    word(rows, (place as usize) + 1)
+}
+
+// The low end of the rule whose row begins at a word, in a field.
+pub fn low(rows: &[u32], place: u32, field: u32) -> u32
+    ensures { λ r. ⌜ r ≡ lowIn (now (rows .entry)) field place ⌝ }
+{
+    word(rows, (place as usize) + (2 + 2 * (field as usize)))
+}
+
+// The high end of the rule whose row begins at a word, in a field.
+pub fn high(rows: &[u32], place: u32, field: u32) -> u32
+    ensures { λ r. ⌜ r ≡ highIn (now (rows .entry)) field place ⌝ }
+{
+    word(rows, (place as usize) + (3 + 2 * (field as usize)))
 }
 
 // Whether the numbers of the n rules rise, from 0 to 65,534.
-pub fn rising(rows: &[u32], n: u32, tops: &[u32]) -> bool
-    requires { ⌜ n ≤ 64 ⌝ }
-    ensures { λ r. ⌜ r ≡ risingFrom 0 (tableIn (kindOf (now (tops .entry))) n (now (rows .entry)) .rules) ⌝ }
+pub fn rising(rows: &[u32], n: u32, tops: &[u32], shape: Shape) -> bool
+    requires { ⌜ (n ≤ 512) × (shape .width ≤ 31) ⌝ }
+    ensures { λ r. ⌜ r ≡ risingFrom 0 (tableIn (kindOf (now (tops .entry)) shape) n (now (rows .entry)) .rules) ⌝ }
 {
     let mut least: u32 = 0;
     let mut p: u32 = 0;
     while p < n {
         p += 1;
-        let x = number(rows, p);
+        let x = number(rows, row_start(shape.width, p));
         if x < least {
             return false;
         }
@@ -166,16 +188,16 @@ pub fn rising(rows: &[u32], n: u32, tops: &[u32]) -> bool
 
 // Whether the rule at a place has right ranges: no low end above its high end, no high end above its field's top.
 pub fn right(rows: &[u32], place: u32, tops: &[u32]) -> bool
-    requires { ⌜ length (now tops) ≤ 6 ⌝ }
+    requires { ⌜ length (now tops) ≤ 32 ⌝ }
     ensures { λ r. ⌜ r ≡ rangesRight (fieldsFrom 0 (now (tops .entry))) (ruleIn (length (now (tops .entry))) (now (rows .entry)) place) ⌝ }
 {
     let mut f: u32 = 0;
     while (f as usize) < tops.len() {
-        let high = rows::high(rows, place, f);
-        if high < rows::low(rows, place, f) {
+        let top = high(rows, place, f);
+        if top < low(rows, place, f) {
             return false;
         }
-        if tops[f as usize] < high {
+        if tops[f as usize] < top {
             return false;
         }
         f += 1;
@@ -184,14 +206,14 @@ pub fn right(rows: &[u32], place: u32, tops: &[u32]) -> bool
 }
 
 // Whether each of the n rules has right ranges.
-pub fn all_right(rows: &[u32], n: u32, tops: &[u32]) -> bool
-    requires { ⌜ (n ≤ 64) × (length (now tops) ≤ 6) ⌝ }
-    ensures { λ r. ⌜ r ≡ allRight (kindOf (now (tops .entry))) (tableIn (kindOf (now (tops .entry))) n (now (rows .entry)) .rules) ⌝ }
+pub fn all_right(rows: &[u32], n: u32, tops: &[u32], shape: Shape) -> bool
+    requires { ⌜ (n ≤ 512) × (shape .width ≤ 31) × (length (now tops) ≤ 32) ⌝ }
+    ensures { λ r. ⌜ r ≡ allRight (kindOf (now (tops .entry)) shape) (tableIn (kindOf (now (tops .entry)) shape) n (now (rows .entry)) .rules) ⌝ }
 {
     let mut p: u32 = 0;
     while p < n {
         p += 1;
-        if !right(rows, p, tops) {
+        if !right(rows, row_start(shape.width, p), tops) {
             return false;
         }
     }
@@ -199,18 +221,29 @@ pub fn all_right(rows: &[u32], n: u32, tops: &[u32]) -> bool
 }
 
 // How many of the n rules stand before the place of the number x. It is looked for from the highest number down, so that a number above all others is placed at the first look.
-pub fn before(rows: &[u32], n: u32, tops: &[u32], x: u32) -> u32
-    requires { ⌜ (n ≤ 64) × (risingFrom 0 (tableIn (kindOf (now tops)) n (now rows) .rules) ≡ true) ⌝ }
-    ensures { λ r. ⌜ (r ≡ ahead x (tableIn (kindOf (now (tops .entry))) n (now (rows .entry)) .rules)) × (r ≤ n) ⌝ }
+pub fn before(rows: &[u32], n: u32, tops: &[u32], shape: Shape, x: u32) -> u32
+    requires { ⌜ (n ≤ 512) × (shape .width ≤ 31) × (risingFrom 0 (tableIn (kindOf (now tops) shape) n (now rows) .rules) ≡ true) ⌝ }
+    ensures { λ r. ⌜ (r ≡ ahead x (tableIn (kindOf (now (tops .entry)) shape) n (now (rows .entry)) .rules)) × (r ≤ n) ⌝ }
 {
     let mut p = n;
     while 0 < p {
-        if number(rows, p) < x {
+        if number(rows, row_start(shape.width, p)) < x {
             return p;
         }
         p -= 1;
     }
     p
+}
+
+// Whether the rule behind the p rules that are ahead of a number has that number: so whether the number stands.
+pub fn stands_behind(rows: &[u32], n: u32, p: u32, x: u32, tops: &[u32], shape: Shape) -> bool
+    requires { ⌜ (shape .width ≤ 31) × (n ≤ 512) × (risingFrom 0 (tableIn (kindOf (now tops) shape) n (now rows) .rules) ≡ true) × (p ≡ ahead x (tableIn (kindOf (now tops) shape) n (now rows) .rules)) ⌝ }
+    ensures { λ r. ⌜ r ≡ stands x (tableIn (kindOf (now (tops .entry)) shape) n (now (rows .entry)) .rules) ⌝ }
+{
+    if n <= p {
+        return false;
+    }
+    number(rows, row_start(shape.width, p + 1)) == x
 }
 
 // How far words can be copied: from a place on to an end, where others are read from a start on and there are so many.
@@ -229,7 +262,7 @@ fn reach(at: usize, end: usize, start: usize, there: usize) -> usize
 
 // Writes into out, from a place on to an end, the words of a slice from a start on; zeros where it has no more.
 fn copy(from: &[u32], start: usize, out: &mut [u32], at: usize, end: usize)
-    requires { ⌜ (at ≤ end) × (end ≤ length (now out)) × (start ≤ 975) ⌝ }
+    requires { ⌜ (at ≤ end) × (end ≤ length (now out)) × (start ≤ 65536) ⌝ }
     ensures { λ _. ⌜ Copied (now (from .entry)) start (now (out .entry)) (now (out .exit)) at end ⌝ }
 {
     let stop = reach(at, end, start, from.len());
@@ -244,98 +277,73 @@ fn copy(from: &[u32], start: usize, out: &mut [u32], at: usize, end: usize)
     }
 }
 
-// Writes the rows with a row put in at a place.
-pub fn put(rows: &[u32], place: u32, row: &[u32], out: &mut [u32])
-    requires { ⌜ (place ≤ 64) × (length (now out) ≡ 975) ⌝ }
-    ensures { λ _. ⌜ now (out .exit) ≡ upTo 975 (putWord (now (rows .entry)) place (now (row .entry))) ⌝ }
+// Moves the words from a place on up by as many as a row has. The last ones are lost, and the first stay where they were as well.
+fn move_up(rows: &mut [u32], at: usize, width: usize)
+    requires { ⌜ at + width ≤ length (now rows) ⌝ }
+    ensures { λ _. ⌜ Raised (now (rows .entry)) (now (rows .exit)) at width ⌝ }
 {
-    let p = 15 * (place as usize);
-    copy(rows, 0, out, 0, p);
-    copy(row, 0, out, p, p + 15);
-    copy(rows, p, out, p + 15, 975);
+    let mut i = rows.len();
+    while at + width < i {
+        i -= 1;
+        rows[i] = rows[i - width];
+    }
 }
 
-// Writes the rows without the row at a place.
-pub fn take_out(rows: &[u32], place: u32, out: &mut [u32])
-    requires { ⌜ (place ≤ 64) × (length (now out) ≡ 975) ⌝ }
-    ensures { λ _. ⌜ now (out .exit) ≡ upTo 975 (takeWord (now (rows .entry)) place) ⌝ }
+// Puts a row into the rows, where it is to begin at a word: those from there on move up, and the last one is lost.
+pub fn put(rows: &mut [u32], width: u32, at: u32, row: &[u32])
+    requires { ⌜ at + width ≤ length (now rows) ⌝ }
+    ensures { λ _. ⌜ now (rows .exit) ≡ upTo (length (now (rows .entry))) (putWord width (now (rows .entry)) at (now (row .entry))) ⌝ }
 {
-    let p = 15 * (place as usize);
-    copy(rows, 0, out, 0, p);
-    copy(rows, p + 15, out, p, 975);
+    let p = at as usize;
+    let w = width as usize;
+    move_up(rows, p, w);
+    copy(row, 0, rows, p, p + w);
 }
 
-// Writes all places of a table of n rules, by rising number, the default's last.
-pub fn places(n: u32, out: &mut [u32])
-    requires { ⌜ (n ≤ 64) × (length (now out) ≡ 65) ⌝ }
-    ensures { λ _. ⌜ take (n + 1) (now (out .exit)) ≡ placesOf n ⌝ }
+// Takes the row that begins at a word out of the rows: those behind it move down, and a row of zeros comes last.
+pub fn take_out(rows: &mut [u32], width: u32, at: u32)
+    requires { ⌜ at ≤ length (now rows) ⌝ }
+    ensures { λ _. ⌜ now (rows .exit) ≡ upTo (length (now (rows .entry))) (takeWord width (now (rows .entry)) at) ⌝ }
+{
+    let w = width as usize;
+    let mut i = at as usize;
+    while i < rows.len() {
+        rows[i] = word(rows, i + w);
+        i += 1;
+    }
+}
+
+// Writes where the rows of a table of n rules begin, by rising number, the default's last.
+pub fn places(width: u32, n: u32, out: &mut [u16])
+    requires { ⌜ (width ≤ 31) × (n ≤ 512) × (n < length (now out)) ⌝ }
+    ensures { λ _. ⌜ take (n + 1) (now (out .exit)) ≡ placesOf width n ⌝ }
 {
     let mut i: u32 = 0;
     while i < n {
-        out[i as usize] = i + 1;
+        out[i as usize] = row_start(width, i + 1) as u16;
         i += 1;
     }
     out[n as usize] = 0;
 }
 
-// The row of a rule.
-pub fn row_of(rule: Rule) -> [u32; 15]
-    ensures { λ r. ⌜ r ≡ upTo 15 (rowWord (given rule)) ⌝ }
+// Word i of the rows of a table that has the default alone, with its action.
+fn fresh_word(action: u32, tops: &[u32], i: usize, shape: Shape) -> u32
+    ensures { λ r. ⌜ r ≡ freshWord (kindOf (now (tops .entry)) shape) action i ⌝ }
 {
-    let low = rule.low;
-    let high = rule.high;
-    [
-        rule.number,
-        rule.action,
-        low[0],
-        high[0],
-        low[1],
-        high[1],
-        low[2],
-        high[2],
-        low[3],
-        high[3],
-        low[4],
-        high[4],
-        0,
-        0,
-        0,
-    ]
-}
-
-// The rule at a place.
-pub fn rule_at(rows: &[u32], place: u32) -> Rule
-    ensures { λ r. ⌜ given r ≡ ruleIn 5 (now (rows .entry)) place ⌝ }
-{
-    Rule {
-        number: number(rows, place),
-        action: action(rows, place),
-        low: [
-            rows::low(rows, place, 0),
-            rows::low(rows, place, 1),
-            rows::low(rows, place, 2),
-            rows::low(rows, place, 3),
-            rows::low(rows, place, 4),
-        ],
-        high: [
-            rows::high(rows, place, 0),
-            rows::high(rows, place, 1),
-            rows::high(rows, place, 2),
-            rows::high(rows, place, 3),
-            rows::high(rows, place, 4),
-        ],
+    if i < (shape.width as usize) {
+        return default_word(action, tops, i, shape);
     }
+    0
 }
 
 // Writes the rows of a table that has the default alone, with its action.
-pub fn fresh(action: u32, tops: &[u32], out: &mut [u32])
-    requires { ⌜ (length (now tops) ≤ 6) × (length (now out) ≡ 975) ⌝ }
-    ensures { λ _. ⌜ now (out .exit) ≡ rowsText (kindOf (now (tops .entry))) (record { action = action; rules = [] }) ⌝ }
+pub fn fresh(action: u32, tops: &[u32], shape: Shape, out: &mut [u32])
+    requires { ⌜ length (now out) ≡ rowWords (kindOf (now tops) shape) ⌝ }
+    ensures { λ _. ⌜ now (out .exit) ≡ rowsText (kindOf (now (tops .entry)) shape) (record { action = action; rules = [] }) ⌝ }
 {
-    let row = [0, action];
     let mut i: usize = 0;
-    while i < 975 {
-        out[i] = rows_word(&row, 0, tops, i);
+    while i < out.len() {
+        out[i] = fresh_word(action, tops, i, shape);
         i += 1;
     }
 }

@@ -1,17 +1,17 @@
 -- The first place whose key passes a test, by the keys that were passed; and what the loop over the keys knows.
 -- Assumes nothing.
 use mathlib.Core.Path.{_≡_, refl, sym, ap, _∙_}
-use mathlib.Core.Bool.{Bool, true, false, cond, _&&_}
+use mathlib.Core.Bool.{Bool, true, false, cond}
 use mathlib.Core.Logic.{_⊎_, inl, inr, ⊎-elim}
 use mathlib.Core.List.{List, [], _∷_}
 use Prim.Native.Nat.{ℕ, zero, suc, _+_, _≤_, _<_}
 use native.Mathlib.Omega.{arith}
 use borrow.Author.Tests.{ltb-true, ltb-false, lt-ltb, le-ltb}
-use lib.Dec.{ltb, leb, eqb}
+use lib.Dec.{ltb}
 use lib.ListN.{length, getD}
 use Rattle.tally.specs.declared.Place.{Place}
 use Rattle.tally.specs.declared.Place.the-variants.{Held, New, Full}
-use Rattle.tally.specs.Tally.{unused, keyed, firstOf, placeOf}
+use Rattle.tally.specs.Tally.{unused, keyed, firstPlace, placeOf}
 
 -- none of the first n keys passes the test
 abbrev pub None : (ℕ → Bool) → List ℕ → ℕ → Type 0
@@ -19,34 +19,34 @@ None test keys n = (j : ℕ) → j < n → test (getD keys j 0) ≡ false
 
 module _ (test : ℕ → Bool) where
   -- the first place is the first that passes
-  pub first-at : (keys : List ℕ) (i : ℕ) → i < length keys → None test keys i → test (getD keys i 0) ≡ true → firstOf test keys ≡ i
-  unfolding firstOf
+  pub first-at : (keys : List ℕ) (i : ℕ) → i < length keys → None test keys i → test (getD keys i 0) ≡ true → firstPlace test keys ≡ i
+  unfolding firstPlace
   first-at [] i h n e = absurd (omega arith)
   first-at (key ∷ keys) zero h n e = rw e
   first-at (key ∷ keys) (suc i) h n e = rw (n 0 (omega arith)) (ap suc (first-at keys i (omega arith) (λ j l. n (suc j) (omega arith)) e))
 
-  pub first-none : (keys : List ℕ) → None test keys (length keys) → firstOf test keys ≡ length keys
-  unfolding firstOf
+  pub first-none : (keys : List ℕ) → None test keys (length keys) → firstPlace test keys ≡ length keys
+  unfolding firstPlace
   first-none [] n = refl
   first-none (key ∷ keys) n = rw (n 0 (omega arith)) (ap suc (first-none keys (λ j l. n (suc j) (omega arith))))
 
   -- and what the first place tells
-  pub before-first : (keys : List ℕ) → None test keys (firstOf test keys)
-  unfolding firstOf
+  pub before-first : (keys : List ℕ) → None test keys (firstPlace test keys)
+  unfolding firstPlace
   before-first [] j l = absurd (omega arith)
   before-first (key ∷ keys) j l = by-test (before-first keys) (test key) refl j l
     where
-      by-test : None test keys (firstOf test keys) → (b : Bool) → test key ≡ b → (j : ℕ) → j < cond b 0 (suc (firstOf test keys)) → test (getD (key ∷ keys) j 0) ≡ false
+      by-test : None test keys (firstPlace test keys) → (b : Bool) → test key ≡ b → (j : ℕ) → j < cond b 0 (suc (firstPlace test keys)) → test (getD (key ∷ keys) j 0) ≡ false
       by-test rest true q j l = absurd (omega arith)
       by-test rest false q zero l = q
       by-test rest false q (suc j) l = rest j (omega arith)
 
-  pub first-passes : (keys : List ℕ) → firstOf test keys < length keys → test (getD keys (firstOf test keys) 0) ≡ true
-  unfolding firstOf
+  pub first-passes : (keys : List ℕ) → firstPlace test keys < length keys → test (getD keys (firstPlace test keys) 0) ≡ true
+  unfolding firstPlace
   first-passes [] l = absurd (omega arith)
   first-passes (key ∷ keys) l = by-test (first-passes keys) (test key) refl l
     where
-      by-test : (firstOf test keys < length keys → test (getD keys (firstOf test keys) 0) ≡ true) → (b : Bool) → test key ≡ b → cond b 0 (suc (firstOf test keys)) < suc (length keys) → test (getD (key ∷ keys) (cond b 0 (suc (firstOf test keys))) 0) ≡ true
+      by-test : (firstPlace test keys < length keys → test (getD keys (firstPlace test keys) 0) ≡ true) → (b : Bool) → test key ≡ b → cond b 0 (suc (firstPlace test keys)) < suc (length keys) → test (getD (key ∷ keys) (cond b 0 (suc (firstPlace test keys))) 0) ≡ true
       by-test rest true q l = q
       by-test rest false q l = rest (omega arith)
 
@@ -84,8 +84,8 @@ module _ (keys : List ℕ) where
 
     -- all keys were passed
     module _ (i free : ℕ) (all : length keys ≤ i) (none : None (keyed number) keys i) (f : Free i free) where
-      none-keyed : ltb (firstOf (keyed number) keys) (length keys) ≡ false
-      none-keyed = le-ltb (firstOf (keyed number) keys) (length keys) (omega (arith, first-none (keyed number) keys (λ j l. none j (omega arith))))
+      none-keyed : ltb (firstPlace (keyed number) keys) (length keys) ≡ false
+      none-keyed = le-ltb (firstPlace (keyed number) keys) (length keys) (omega (arith, first-none (keyed number) keys (λ j l. none j (omega arith))))
 
       pub new-at : free < length keys → placeOf number keys ≡ New free
       unfolding placeOf
@@ -98,43 +98,43 @@ module _ (keys : List ℕ) where
       unfolding placeOf
       full-at h =
           ⊎-elim
-          (λ g. rw none-keyed (rw (le-ltb (firstOf unused keys) (length keys) (omega (arith, first-none unused keys (λ j l. g .1 j (omega arith)))))))
+          (λ g. rw none-keyed (rw (le-ltb (firstPlace unused keys) (length keys) (omega (arith, first-none unused keys (λ j l. g .1 j (omega arith)))))))
           (λ g. absurd (omega arith))
           f
 
 -- WHAT A PLACE TELLS of the keys
-pub data Told (number : ℕ) (keys : List ℕ) : Place → Type 0 where
-  held : (i : ℕ) → i < length keys → None (keyed number) keys i → keyed number (getD keys i 0) ≡ true → Told number keys (Held i)
-  new : (i : ℕ) → i < length keys → None (keyed number) keys (length keys) → None unused keys i → unused (getD keys i 0) ≡ true → Told number keys (New i)
-  full : None (keyed number) keys (length keys) → None unused keys (length keys) → Told number keys Full
+pub data Tells (number : ℕ) (keys : List ℕ) : Place → Type 0 where
+  holds-it : (i : ℕ) → i < length keys → None (keyed number) keys i → keyed number (getD keys i 0) ≡ true → Tells number keys (Held i)
+  takes-it : (i : ℕ) → i < length keys → None (keyed number) keys (length keys) → None unused keys i → unused (getD keys i 0) ≡ true → Tells number keys (New i)
+  no-room : None (keyed number) keys (length keys) → None unused keys (length keys) → Tells number keys Full
 
-pub place-told : (number : ℕ) (keys : List ℕ) → Told number keys (placeOf number keys)
+pub place-told : (number : ℕ) (keys : List ℕ) → Tells number keys (placeOf number keys)
 unfolding placeOf
-place-told number keys = pick (ltb (firstOf (keyed number) keys) (length keys)) refl (ltb (firstOf unused keys) (length keys)) refl
+place-told number keys = pick (ltb (firstPlace (keyed number) keys) (length keys)) refl (ltb (firstPlace unused keys) (length keys)) refl
   where
-    none-of : (test : ℕ → Bool) → ltb (firstOf test keys) (length keys) ≡ false → None test keys (length keys)
-    none-of test q j l = before-first test keys j (omega (arith, ltb-false (firstOf test keys) (length keys) q))
+    none-of : (test : ℕ → Bool) → ltb (firstPlace test keys) (length keys) ≡ false → None test keys (length keys)
+    none-of test q j l = before-first test keys j (omega (arith, ltb-false (firstPlace test keys) (length keys) q))
 
-    pick : (b : Bool) → ltb (firstOf (keyed number) keys) (length keys) ≡ b → (d : Bool) → ltb (firstOf unused keys) (length keys) ≡ d
-        → Told number keys (cond b (Held (firstOf (keyed number) keys)) (cond d (New (firstOf unused keys)) Full))
-    pick true q d r = let l = ltb-true (firstOf (keyed number) keys) (length keys) q in held _ l (before-first (keyed number) keys) (first-passes (keyed number) keys l)
-    pick false q true r = let l = ltb-true (firstOf unused keys) (length keys) r in new _ l (none-of (keyed number) q) (before-first unused keys) (first-passes unused keys l)
-    pick false q false r = full (none-of (keyed number) q) (none-of unused r)
+    pick : (b : Bool) → ltb (firstPlace (keyed number) keys) (length keys) ≡ b → (d : Bool) → ltb (firstPlace unused keys) (length keys) ≡ d
+        → Tells number keys (cond b (Held (firstPlace (keyed number) keys)) (cond d (New (firstPlace unused keys)) Full))
+    pick true q d r = let l = ltb-true (firstPlace (keyed number) keys) (length keys) q in holds-it _ l (before-first (keyed number) keys) (first-passes (keyed number) keys l)
+    pick false q true r = let l = ltb-true (firstPlace unused keys) (length keys) r in takes-it _ l (none-of (keyed number) q) (before-first unused keys) (first-passes unused keys l)
+    pick false q false r = no-room (none-of (keyed number) q) (none-of unused r)
 
 -- a place that is found is one of m places
 module _ (keys : List ℕ) (number i m : ℕ) {p : Place} (long : length keys ≡ m) (e : p ≡ placeOf number keys) where
   pub held-below : p ≡ Held i → i < m
   held-below q = told (placeOf number keys) (sym e ∙ q) (place-told number keys)
     where
-      told : (r : Place) → r ≡ Held i → Told number keys r → i < m
-      told r q (held j l n h) = let z : j ≡ i = cc in omega arith
-      told r q (new j l n f h) = let z : _≡_ {A = ℕ} 0 1 = cc in absurd (omega arith)
-      told r q (full n f) = let z : _≡_ {A = ℕ} 0 1 = cc in absurd (omega arith)
+      told : (r : Place) → r ≡ Held i → Tells number keys r → i < m
+      told r q (holds-it j l n h) = let z : j ≡ i = cc in omega arith
+      told r q (takes-it j l n f h) = let z : _≡_ {A = ℕ} 0 1 = cc in absurd (omega arith)
+      told r q (no-room n f) = let z : _≡_ {A = ℕ} 0 1 = cc in absurd (omega arith)
 
   pub new-below : p ≡ New i → i < m
   new-below q = told (placeOf number keys) (sym e ∙ q) (place-told number keys)
     where
-      told : (r : Place) → r ≡ New i → Told number keys r → i < m
-      told r q (held j l n h) = let z : _≡_ {A = ℕ} 0 1 = cc in absurd (omega arith)
-      told r q (new j l n f h) = let z : j ≡ i = cc in omega arith
-      told r q (full n f) = let z : _≡_ {A = ℕ} 0 1 = cc in absurd (omega arith)
+      told : (r : Place) → r ≡ New i → Tells number keys r → i < m
+      told r q (holds-it j l n h) = let z : _≡_ {A = ℕ} 0 1 = cc in absurd (omega arith)
+      told r q (takes-it j l n f h) = let z : j ≡ i = cc in omega arith
+      told r q (no-room n f) = let z : _≡_ {A = ℕ} 0 1 = cc in absurd (omega arith)

@@ -1,14 +1,13 @@
 -- The lookup that counts, one law for each of its answers.
 -- Assumes nothing.
 use mathlib.Core.Path.{_≡_, refl, sym, ap, _∙_}
-use mathlib.Core.Bool.{Bool, true, false, cond}
+use mathlib.Core.Bool.{true, false}
 use mathlib.Core.List.{List}
 use Prim.Native.Nat.{ℕ, _≤_}
 use native.Mathlib.Omega.{arith}
 use borrow.Author.Tests.{eq-eqb, ne-eqb}
-use lib.Dec.{eqb}
 use lib.ListN.{length}
-use Rattle.header.specs.declared.Packet.{Packet}
+use Rattle.model.proofs.Tests.{never}
 use Rattle.header.specs.declared.Header.{Header}
 use Rattle.header.specs.declared.Header.the-variants.{Values, Unreadable}
 use Rattle.header.specs.Header.{headerOf, totalLength}
@@ -17,7 +16,14 @@ use Rattle.lookup.specs.declared.Found.{Found}
 use Rattle.lookup.specs.Walk.{refused, lookupHeader, lookupPacket}
 use Rattle.tally.specs.declared.Tallies.{Tallies}
 use Rattle.tally.specs.declared.Place.{Place}
-use Rattle.tally.specs.Tally.{placeOf, hasPlace, counted, tallyAnswer, talliesLeft}
+use Rattle.tally.specs.declared.Place.the-variants.{Held, New, Full}
+use Rattle.tally.specs.Tally.{placeOf, hasPlace, placeAnswer, talliesWith, tallyAnswer, talliesLeft}
+
+-- where a number has no place, the answer is 13
+placeless : (p : Place) → hasPlace p ≡ false → placeAnswer p ≡ 13
+placeless (Held place) h = never h
+placeless (New place) h = never h
+placeless Full h = refl
 
 -- f is what the lookup by the packet answers, n the packet's total length
 module _ (words packet : List ℕ) (f : Found) (is : f ≡ lookupPacket words packet) where
@@ -42,9 +48,9 @@ module _ (words packet : List ℕ) (f : Found) (is : f ≡ lookupPacket words pa
     abbrev place : Place
     place = placeOf (f .rule) (t .key)
 
-    module _ (e : f .answer ≡ 0) (n : ℕ) (total : n ≡ totalLength packet) (u : Tallies) (q : u ≡ counted place (f .rule) n t) where
-      left : u ≡ counted place (f .rule) (totalLength packet) t
-      left = q ∙ ap (λ (m : ℕ). counted place (f .rule) m t) total
+    module _ (e : f .answer ≡ 0) (n : ℕ) (total : n ≡ totalLength packet) (u : Tallies) (q : u ≡ talliesWith place (f .rule) n t) where
+      left : u ≡ talliesWith place (f .rule) (totalLength packet) t
+      left = q ∙ ap (λ (m : ℕ). talliesWith place (f .rule) m t) total
 
       pub counts : hasPlace place ≡ true → Does f u
       unfolding tallyAnswer talliesLeft
@@ -52,4 +58,4 @@ module _ (words packet : List ℕ) (f : Found) (is : f ≡ lookupPacket words pa
 
       pub no-place : hasPlace place ≡ false → Does (refused 13) u
       unfolding tallyAnswer talliesLeft
-      no-place h = rw (← is) (simp (eq-eqb _ _ e, h) (refl, left))
+      no-place h = rw (← is) (simp (eq-eqb _ _ e, h) (ap refused (sym (placeless place h)), left))

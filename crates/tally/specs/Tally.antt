@@ -1,7 +1,7 @@
 -- Tallies for each rule, request P1: what a lookup that counts answers, and what it leaves of the tally record that it was lent.
 -- A record has 65 places, each with a key, a count of packets and a count of bytes. Its words may be any numbers.
 -- Assumes nothing: these are definitions.
-use mathlib.Core.Bool.{Bool, true, false, cond, _&&_}
+use mathlib.Core.Bool.{Bool, cond, _&&_}
 use mathlib.Core.List.{List, [], _∷_}
 use Prim.Native.Nat.{ℕ, suc, _+_, _-_, _%_, _^_}
 use lib.Dec.{ltb, leb, eqb}
@@ -21,15 +21,15 @@ abbrev pub keyed : ℕ → ℕ → Bool
 keyed number key = eqb key number && leb key 65535
 
 -- the place of the first key that passes the test; where none does, one past the last place
-unfoldable pub firstOf : (ℕ → Bool) → List ℕ → ℕ
-firstOf test [] = 0
-firstOf test (key ∷ keys) = cond (test key) 0 (suc (firstOf test keys))
+unfoldable pub firstPlace : (ℕ → Bool) → List ℕ → ℕ
+firstPlace test [] = 0
+firstPlace test (key ∷ keys) = cond (test key) 0 (suc (firstPlace test keys))
 
 -- "a number held twice counts in the first, a number not yet held takes the first unused one"
 unfoldable pub placeOf : ℕ → List ℕ → Place
 placeOf number keys =
-    let held = firstOf (keyed number) keys in
-    let free = firstOf unused keys in
+    let held = firstPlace (keyed number) keys in
+    let free = firstPlace unused keys in
     cond (ltb held (length keys)) (Held held) (cond (ltb free (length keys)) (New free) Full)
 
 -- WHAT IS ADDED. "Both are Counter32 as in RFC 2578: a tally starts again at zero after 4,294,967,295"
@@ -40,33 +40,38 @@ abbrev pub addedAt : ℕ → ℕ → List ℕ → List ℕ
 addedAt place n counts = set counts place (plus (getD counts place 0) n)
 
 -- "for the winning rule it adds one packet and the packet's total length in bytes. [..] Every other tally stays"
-abbrev pub added : ℕ → ℕ → Tallies → Tallies
-added place bytes t = record { key = t .key; packets = addedAt place 1 (t .packets); bytes = addedAt place bytes (t .bytes) }
+abbrev pub addedIn : ℕ → ℕ → Tallies → Tallies
+addedIn place bytes t = record { key = t .key; packets = addedAt place 1 (t .packets); bytes = addedAt place bytes (t .bytes) }
 
 -- a number takes a place, "from zero"
-abbrev pub begun : ℕ → ℕ → Tallies → Tallies
-begun place number t = record { key = set (t .key) place number; packets = set (t .packets) place 0; bytes = set (t .bytes) place 0 }
+abbrev pub begunIn : ℕ → ℕ → Tallies → Tallies
+begunIn place number t = record { key = set (t .key) place number; packets = set (t .packets) place 0; bytes = set (t .bytes) place 0 }
 
-abbrev pub counted : Place → ℕ → ℕ → Tallies → Tallies
-counted (Held place) number bytes t = added place bytes t
-counted (New place) number bytes t = added place bytes (begun place number t)
-counted Full number bytes t = t
+-- THE CASES of a place: what becomes of the record, and document 02's number, 13 "when a new number finds no place" or 0, done
+abbrev pub talliesWith : Place → ℕ → ℕ → Tallies → Tallies
+talliesWith (Held place) number bytes t = addedIn place bytes t
+talliesWith (New place) number bytes t = addedIn place bytes (begunIn place number t)
+talliesWith Full number bytes t = t
+
+abbrev pub placeAnswer : Place → ℕ
+placeAnswer (Held place) = 0
+placeAnswer (New place) = 0
+placeAnswer Full = 13
 
 abbrev pub hasPlace : Place → Bool
-hasPlace (Held place) = true
-hasPlace (New place) = true
-hasPlace Full = false
+hasPlace p = eqb (placeAnswer p) 0
 
 -- THE LOOKUP BY A PACKET THAT COUNTS: what it answers, "13 when a new number finds no place, after all others"; and the record that it leaves, as it was where the lookup is refused
 unfoldable pub tallyAnswer : List ℕ → List ℕ → Tallies → Found
 tallyAnswer words packet t =
     let f = lookupPacket words packet in
-    cond (eqb (f .answer) 0) (cond (hasPlace (placeOf (f .rule) (t .key))) f (refused 13)) f
+    let p = placeOf (f .rule) (t .key) in
+    cond (eqb (f .answer) 0) (cond (hasPlace p) f (refused (placeAnswer p))) f
 
 unfoldable pub talliesLeft : List ℕ → List ℕ → Tallies → Tallies
 talliesLeft words packet t =
     let f = lookupPacket words packet in
-    cond (eqb (f .answer) 0) (counted (placeOf (f .rule) (t .key)) (f .rule) (totalLength packet) t) t
+    cond (eqb (f .answer) 0) (talliesWith (placeOf (f .rule) (t .key)) (f .rule) (totalLength packet) t) t
 
 -- a record of three arrays
 abbrev pub tallies : List ℕ → List ℕ → List ℕ → Tallies

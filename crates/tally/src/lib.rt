@@ -3,7 +3,7 @@ ghost use mathlib.Core.Path.{_≡_};
 ghost use mathlib.Core.Bool.{cond};
 ghost use Prim.Native.Nat.{_<_};
 ghost use lib.Dec.{ltb};
-ghost use Rattle.tally.specs.Tally.{unused, keyed, placeOf, addedAt, hasPlace, counted, tallyAnswer, talliesLeft, tallies, cleared, difference as differenceOf};
+ghost use Rattle.tally.specs.Tally.{unused, keyed, placeOf, addedAt, hasPlace, talliesWith, tallyAnswer, talliesLeft, tallies, cleared, difference as differenceOf};
 use header::Header;
 use lookup::Found;
 
@@ -80,7 +80,7 @@ fn count(
     number: u32,
     length: u32,
 ) -> bool
-    ensures { λ r. ⌜ (r ≡ hasPlace (placeOf number (now (key .entry)))) × (tallies (now (key .exit)) (now (packets .exit)) (now (bytes .exit)) ≡ counted (placeOf number (now (key .entry))) number length (tallies (now (key .entry)) (now (packets .entry)) (now (bytes .entry)))) ⌝ }
+    ensures { λ r. ⌜ (r ≡ hasPlace (placeOf number (now (key .entry)))) × (tallies (now (key .exit)) (now (packets .exit)) (now (bytes .exit)) ≡ talliesWith (placeOf number (now (key .entry))) number length (tallies (now (key .entry)) (now (packets .entry)) (now (bytes .entry)))) ⌝ }
 {
     match place_of(key, number) {
         Place::Held(place) => {

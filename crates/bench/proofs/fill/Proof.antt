@@ -3,7 +3,7 @@
 use mathlib.Core.Path.{ap₂, _∙_}
 use borrow.Author.Needs.{needs}
 use Rattle.model.specs.Ipv4.{ipv4}
-use Rattle.stored.specs.Store.{insertWords}
+use Rattle.layout.specs.Store.{insertWords}
 use Rattle.bench.proofs.fill.Statement.{statement}
 use Rattle.bench.proofs.fill.Tie as tie
 

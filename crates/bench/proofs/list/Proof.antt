@@ -1,11 +1,12 @@
 -- `bench::list` is safe and ends. The invariant: the two buffers keep their lengths, and no more bytes are used than there are. The measure: how many records the place can still count.
 -- Assumes nothing.
-use mathlib.Core.Path.{_≡_}
+use mathlib.Core.Path.{_≡_, sym, ap}
 use Prim.Native.Nat.{_-_, _≤_}
 use native.Mathlib.Omega.{arith}
-use borrow.Author.Needs.{needs}
 use lib.ListN.{length}
-use Rattle.bench.proofs.Records.{part-long, record-small}
+use lib.Seq.{length-take-le}
+use Rattle.listing.specs.Records.{lengthOf}
+use borrow.Author.Needs.{needs}
 use Rattle.bench.proofs.list.Statement.{statement}
 use Rattle.bench.proofs.list.Tie as tie
 
@@ -18,8 +19,8 @@ abbrev μ-loop : tie.MeasureT-loop
 -- the record lies within the bytes
 within : tie.Need-array-share-prefix-bytes Inv-loop μ-loop
 within c =
-    let r = c .before .before .before .before .before .read-record in
-    omega (arith, record-small _ _ _ (c .before .before .n .given .1) (r .ensures), r .kept .1 .0)
+    let r = c .before .before .before .before .read-record in
+    omega (arith, ap (λ x. lengthOf x) (c .before .n .given .1), r .ensures, r .kept .1 .0)
 
 pub list-spec : {M : Type 1} → statement M
 list-spec =
@@ -34,16 +35,18 @@ list-spec =
     (λ c κs. search needs)
     (λ c. search needs)
     (λ c. search needs)
-    (λ c. part-long _ _ (omega arith))
+    (λ c. sym (length-take-le _ _ (omega arith)))
     (λ c κs. search needs)
     (λ c κs. search needs)
-    (λ c. search needs)
     (λ c. search needs)
     (λ c. search needs)
     (λ c. search needs)
     within
-    (λ c. part-long _ _ (within (c .before)))
+    (λ c. sym (length-take-le _ _ (within (c .before))))
     (λ c κs. search needs)
+    (λ c. search needs)
+    (λ c κs. search needs)
+    (λ c. search needs)
     (λ c κs. search needs)
     (λ c. search needs)
     (λ c. search needs)

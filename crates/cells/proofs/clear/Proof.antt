@@ -24,7 +24,7 @@ clear-spec =
     (λ c κs. search needs)
     (λ c. search needs)
     (λ c. simp length-set (omega (arith, c .before .before .zero .kept .0)))
-    (λ c. (omega arith, clear-start _ _ _ (c .before .before .zero .ensures) (c .before .before .before .before .before .pre .0) (c .before .before .before .before .before .pre .1)))
+    (λ c. let z = c .before .before in let p = z .before .before .before .pre in (omega arith, clear-start _ _ _ (z .zero .ensures) (p .0) (p .1)))
     (λ c. omega arith)
     (λ c κs. back-room (clear-turn (c .before .before .loop .inv .1) (c .before .loop-test .taken)))
     (λ c. omega (arith, c .before .before .before .before .loop-test .taken))

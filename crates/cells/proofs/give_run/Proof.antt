@@ -5,7 +5,7 @@ use mathlib.Core.Path.{refl, sym, _∙_}
 use mathlib.Core.List.{List}
 use native.Mathlib.Omega.{arith}
 use Rattle.cells.specs.Text.{Run, len}
-use Rattle.cells.specs.States.{head, Rows}
+use Rattle.cells.specs.States.{firstFree, Rows}
 use Rattle.cells.proofs.Runs.{Giving, Last, lasts, back-room, back-less, given, all-given}
 use Rattle.cells.proofs.give_run.Statement.{statement}
 use Rattle.cells.proofs.give_run.Tie as tie
@@ -14,7 +14,7 @@ abbrev Inv-loop : tie.InvT-loop
 Inv-loop words₀ c first k₀ words k = (a n : ℕ) (q : List ℕ) (s : Run) → Rows words₀ k₀ c a n q s → Giving words k c a q (len s + n)
 
 abbrev μ-loop : tie.MeasureT-loop
-μ-loop words₀ c first k₀ words k = head words
+μ-loop words₀ c first k₀ words k = firstFree words
 
 -- in a turn there is a cell to give back, for what the `requires` names
 turn : (c : tie.In-loop Inv-loop μ-loop) →

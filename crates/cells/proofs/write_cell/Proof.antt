@@ -1,4 +1,4 @@
--- `cells::write_cell` leaves the three words written. Assumes nothing.
+-- `cells::write_cell` leaves the four words written. Assumes nothing.
 use native.Mathlib.Nat.{add-zero}
 use native.Mathlib.Omega.{arith}
 use lib.ListN.{length-set}
@@ -19,6 +19,9 @@ write-cell-spec =
     (λ c. simp length-set (omega arith))
     (λ c. search needs)
     (λ c. search needs)
+    (λ c. simp length-set (omega arith))
     (λ c. search needs)
+    (λ c. search needs)
+    (λ c. simp length-set (omega arith))
     (λ c. search needs)
     (λ c. simp add-zero))

@@ -1,20 +1,35 @@
--- `compare::compare_chain` meets its contract. The invariant: the run stands by its ends, and the cells from `k` to `i` stand with all that is below them, which ends before cell `b`. The measures are the fields that are left, and the cells of the run that are left.
+-- `compare::compare_chain` meets its contract. The invariant is `Comparing`: the run stands by its ends, and the cells from `k` to `i` stand with all that is below them, which ends before cell `b`. The measures are the fields that are left, and the cells of the run that are left.
 -- Assumes nothing.
-use Prim.Native.Nat.{ℕ, _<_, _-_}
-use mathlib.Core.Path.{_≡_, refl, sym, _∙_}
+use Prim.Native.Nat.{ℕ, _<_, _≤_, _+_, _-_}
+use mathlib.Core.Path.{_≡_, refl, sym, ap, _∙_}
+use mathlib.Core.Bool.{Bool, true, false, not}
+use mathlib.Core.List.{append-nil}
+use native.Mathlib.Nat.{pos-of-ne-zero}
 use native.Mathlib.Omega.{arith}
-use lib.ListN.{length}
+use lib.ListN.{length, take}
+use lib.Seq.{length-take-le}
 use borrow.Author.Needs.{needs}
+use borrow.Rule.Slice.PartMut.{mid-len}
 use borrow.Fn.Kinds.{In}
 use borrow.Fn.PlainCycle.{Measures, is, falls, and}
-use Rattle.compare.proofs.Steps.{Compared, compared-none, compared-run, compared-start, compared-end, compared-not, compared-no, compared-on, flat-full, flat-no, flat-not, flat-no-rest, flat-same}
+use Rattle.rows.specs.Rows.{treeAt, Flat}
+use Rattle.rows.proofs.Room.{set-fits, sets-fit, ends-fit, scratch-on, scratch-under}
+use Rattle.cells.specs.declared.Below.{Below}
+use Rattle.cells.specs.Text.{onlyDown}
+use Rattle.cells.specs.States.{Narrows}
+use Rattle.compare.specs.declared.Told.{Told}
+use Rattle.compare.specs.declared.Told.the-variants.{Same, Differs}
+use Rattle.compare.specs.Compare.{told, restIs}
+use Rattle.compare.proofs.Steps.{compared-none, compared-run, compared-start, compared-end, Comparing, Turn, turn-not, turn-no, turn-on, flat-no, flat-inside, flat-not, flat-no-rest, flat-same}
 use Rattle.compare.proofs.compare_chain.Reads as chain
 use Rattle.compare.proofs.compare_chain.Kinds as kinds
 use Rattle.compare.proofs.+compare_chain.Lts-compare_chain as lts
-use Rattle.compare.proofs.head_is.Reads as head-is
+use Rattle.compare.proofs.end_at.Reads as end-at
+use Rattle.compare.proofs.last_is.Reads as last-is
+use Rattle.compare.proofs.leaf_is.Reads as leaf-is
+use Rattle.compare.proofs.one_is.Reads as one-is
 use Rattle.compare.proofs.rest_is.Reads as rest-is
 use Rattle.compare.proofs.run_is.Reads as run-is
-use Rattle.compare.proofs.last_is.Reads as last-is
 use Rattle.rows.proofs.first_place.Reads as first-place
 use Rattle.rows.proofs.flat.Reads as flat
 use Rattle.rows.proofs.high.Reads as high
@@ -23,7 +38,7 @@ use Rattle.compare.proofs.+compare_chain.{statement}
 use Rattle.compare.proofs.+compare_chain.Tie.{close}
 
 abbrev fields-left : Measures 4 kinds.ps ℕ
-fields-left κs a = a .1 .1 .1 .1 .1 .0
+fields-left κs a = a .1 .1 .1 .1 .1 .1 .0
 
 abbrev chain-at : ℕ → In 4 kinds.ps
 chain-at t = and 4 kinds.ps (is 4 kinds.ps fields-left t) chain.Pre
@@ -32,22 +47,23 @@ abbrev chain-below : ℕ → In 4 kinds.ps
 chain-below t = and 4 kinds.ps (falls 4 kinds.ps _<_ fields-left t) chain.Pre
 
 abbrev Inv-loop : lts.InvT-loop
-Inv-loop words c rules set field left k ends₀ high end low under₀ i₀ b₀ ends under i b =
-    Compared words c rules set field left k low end i b × (length under ≡ 65) × (length ends ≡ 130)
+Inv-loop words c rules sets₀ n field left k ends₀ none high end low i₀ b₀ sets ends i b = Comparing words c rules sets₀ sets ends₀ ends n field left k low end i b
 
 abbrev μ-loop : lts.MeasureT-loop
-μ-loop words c rules set field left k ends₀ high end low under₀ i₀ b₀ ends under i b = end - i
+μ-loop words c rules sets₀ n field left k ends₀ none high end low i₀ b₀ sets ends i b = end - i
 
 abbrev callees : ℕ → lts.Claims
 callees t = (
+  leaf-is.Asked,
+  leaf-is.Learnt,
   first-place.Asked,
   first-place.Learnt,
   high.Asked,
   high.Learnt,
   flat.Asked,
   flat.Learnt,
-  head-is.Asked,
-  head-is.Learnt,
+  one-is.Asked,
+  one-is.Learnt,
   rest-is.Asked,
   rest-is.Learnt,
   chain-below t,
@@ -56,68 +72,212 @@ callees t = (
   run-is.Learnt,
   last-is.Asked,
   last-is.Learnt,
+  end-at.Asked,
+  end-at.Learnt,
   narrow.Asked,
   narrow.Learnt,
 )
 
+module _ (t : ℕ) where
+  abbrev Begun : Type 0
+  Begun = lts.Start (callees t) (chain-at t) chain.Post Inv-loop μ-loop
+
+  -- what is to be told
+  abbrev whole : Begun → Told
+  whole s = let a = s .args in told (a .words .now) (a .c) (a .k) (treeAt (a .rules .now) (a .field) (a .left) (take (a .n) (a .sets .now)))
+
+  -- ONE CELL, once it is tested
+  abbrev One : Type 0
+  One = lts.After-one-is (callees t) (chain-at t) chain.Post Inv-loop μ-loop
+
+  abbrev begun-one : One → Begun
+  begun-one o = o .before .before .before .before .before .before .before .before .before .before .before .before
+
+  -- what is to be told of what is below it
+  abbrev next-of : Begun → Told
+  next-of s = let a = s .args in told (a .words .now) (a .c) (a .k + 1) (treeAt (a .rules .now) (a .field + 1) (a .left - 1) (take (a .n) (a .sets .now)))
+
+  flat-one : (o : One) → let a = begun-one o .args in Flat (a .rules .now) (a .field) (take (a .n) (a .sets .now)) (o .before .before .before .high .result)
+  flat-one o = rw append-nil at (o .before .before .flat .ensures (o .before .if2 .taken))
+
+  no-one : (o : One) → not (o .one-is .result) ≡ true → Differs ≡ whole (begun-one o)
+  no-one o d = let p = begun-one o .pre .1 in flat-no (o .before .before .before .before .before .before .if1 .left) (flat-one o) (p .0) (p .3) (o .one-is .ensures) d
+
+  module _ (o : One) (d : not (o .one-is .result) ≡ false) where
+    inside-one : begun-one o .args .k < begun-one o .args .c
+    inside-one = let p = begun-one o .pre .1 in flat-inside (o .before .before .before .before .before .before .if1 .left) (flat-one o) (p .0) (p .3) (o .one-is .ensures) d
+
+    module _ {a : Told} (u : a ≡ next-of (begun-one o)) where
+      not-one : a ≡ Differs → Differs ≡ whole (begun-one o)
+      not-one v = let p = begun-one o .pre .1 in flat-not (o .before .before .before .before .before .before .if1 .left) (flat-one o) (p .0) (p .3) (o .one-is .ensures) d u v
+
+      module _ {past : ℕ} {down : Below} {y : Bool} (v : a ≡ Same past down) (g : y ≡ restIs (begun-one o .args .words .now) (begun-one o .args .k) down) where
+        no-rest-one : not y ≡ true → Differs ≡ whole (begun-one o)
+        no-rest-one z = let p = begun-one o .pre .1 in flat-no-rest (o .before .before .before .before .before .before .if1 .left) (flat-one o) (p .0) (p .3) (o .one-is .ensures) d u v g z
+
+        same-one : not y ≡ false → Same past (onlyDown (begun-one o .args .k)) ≡ whole (begun-one o)
+        same-one z = let p = begun-one o .pre .1 in flat-same (o .before .before .before .before .before .before .if1 .left) (flat-one o) (p .0) (p .3) (o .one-is .ensures) d u v g z
+
+  -- what is below it in the last field
+  leaf-one : (l : lts.After-first-place2 (callees t) (chain-at t) chain.Post Inv-loop μ-loop) → let s = begun-one (l .before .before .before) in Same (s .args .k + 1) (onlyDown (l .first-place2 .result)) ≡ next-of s
+  leaf-one l = compared-none _ _ _ _ _ _ _ (omega (arith, l .before .if4 .taken)) (ap (λ p. Same (begun-one (l .before .before .before) .args .k + 1) (onlyDown p)) (l .first-place2 .ensures))
+
+  -- THE LOOP
+  abbrev Looped : Type 0
+  Looped = lts.At-loop (callees t) (chain-at t) chain.Post Inv-loop μ-loop
+
+  abbrev begun-loop : Looped → Begun
+  begun-loop l = l .before .before .before .before .before .before .before .before .before .before .before .before .before .before .before .before .before .before .before .before
+
+  some-left : (l : Looped) → 0 < begun-loop l .args .left
+  some-left l = pos-of-ne-zero (l .before .before .before .before .before .before .before .before .before .before .before .before .before .before .if1 .left)
+
+  nz-loop : (l : Looped) → begun-loop l .args .left ≡ 0 → ⊥
+  nz-loop l = l .before .before .before .before .before .before .before .before .before .before .before .before .before .before .if1 .left
+
+  ends-kept : (l : Looped) → length (l .loop .ends) ≡ length (begun-loop l .args .ends .now)
+  ends-kept l = l .loop .inv .ends-long ∙ l .before .before .before .before .before .before .before .run-is .kept .1 .1 .1 .1 .1 .1 .0
+
+  fits : (l : Looped) → begun-loop l .args .n + begun-loop l .args .n ≤ length (l .loop .sets)
+  fits l = omega (arith, l .loop .inv .sets-long, sets-fit (begun-loop l .pre .1 .1) (some-left l))
+
+  abbrev Narrowed : Type 0
+  Narrowed = lts.After-narrow (callees t) (chain-at t) chain.Post Inv-loop μ-loop
+
+  -- the turn in which the set is narrowed
+  abbrev turn-at : Narrowed → lts.In-loop (callees t) (chain-at t) chain.Post Inv-loop μ-loop
+  turn-at v = v .before .before .before
+
+  narrows : (v : Narrowed) → let l = turn-at v .before in let a = begun-loop l .args in Narrows (a .rules .now) (l .loop .sets) (v .narrow .last .1 .1 .0) (a .n) (v .narrow .result) (a .field) (v .before .before .end-at .result)
+  narrows v = let e = v .narrow .ensures in record { few = e .0; kept = e .1; next = rw append-nil at (e .2) }
+
+  turn : (v : Narrowed) → let l = turn-at v .before in let a = begun-loop l .args in let w = v .narrow in
+      Turn (a .words .now) (a .c) (a .rules .now) (a .sets .now) (l .loop .sets) (w .last .1 .1 .0) (l .before .before .before .before .before .before .before .run-is .last .1 .1 .1 .1 .1 .1 .0) (l .loop .ends)
+      (a .n) (w .result) (a .field) (a .left) (a .k) (l .before .before .before .end .given .0 .1 .0) (l .before .before .before .end .given .0 .0) (l .loop .i) (l .loop .b)
+  turn v =
+      let i = turn-at v in
+      let l = i .before in
+      record {
+        some = nz-loop l;
+        so-far = l .loop .inv;
+        e = _;
+        is-end = v .before .before .end-at .ensures;
+        narrows = narrows v;
+        long = v .narrow .kept .1 .1 .0;
+        fits = omega (arith, fits l);
+        room = begun-loop l .pre .1 .0;
+        inside = i .loop-test .taken;
+      }
+
 pub +compare-chain-spec : {M : Type 1} → statement M
 +compare-chain-spec = close fields-left λ t. lts.spec (callees t) (chain-at t) chain.Post Inv-loop μ-loop
+    (λ c. set-fits (c .before .before .before .before .pre .1 .1))  -- slice-reshare-prefix-set
+    (λ c. sym (length-take-le _ _ (set-fits (c .before .before .before .before .before .pre .1 .1))))  -- slice-aggregate-set
+    (λ c κs. search needs)  -- leaf-is-requires
+    (λ c. search needs)  -- same-length
+    (λ c. compared-none _ _ _ _ _ _ _ (c .before .if1 .taken) (c .leaf-is .ensures))  -- returns
+    (λ c. search needs)  -- slice-aggregate-none
     (λ c κs. search needs)  -- first-place-requires
-    (λ c. compared-none _ _ _ _ _ _ _ _ (c .before .if1 .taken) (c .first-place .ensures))  -- returns
-    (λ c κs. search needs)  -- first-place-requires-2
     (λ c κs. search needs)  -- high-requires
     (λ c κs. search needs)  -- flat-requires
-    (λ c. flat-full (c .before .before .before .before .before .if1 .left) (c .before .before .flat .ensures (c .before .if2 .taken)) (c .before .before .before .before .before .before .before .before .before .before .pre .1 .0) (c .before .before .before .before .before .before .before .before .before .before .pre .1 .3) (c .if3 .taken))  -- returns-2
-    (λ c κs. search needs)  -- head-is-requires
-    (λ c. flat-no (c .before .before .before .before .before .before .before .if1 .left) (c .before .before .before .before .flat .ensures (c .before .before .before .if2 .taken)) (c .before .before .before .before .before .before .before .before .before .before .before .before .pre .1 .0) (c .before .before .before .before .before .before .before .before .before .before .before .before .pre .1 .3) (c .before .head-is .ensures) (c .if4 .taken))  -- returns-3
-    (λ c κs. search needs)  -- first-place-requires-3
-    (λ c κs. search needs)  -- rest-is-requires
-    (λ c. flat-no-rest (c .before .before .before .before .before .before .before .before .before .before .before .if1 .left) (c .before .before .before .before .before .before .before .before .flat .ensures (c .before .before .before .before .before .before .before .if2 .taken)) (c .before .before .before .before .before .before .before .before .before .before .before .before .before .before .before .before .pre .1 .0) (c .before .before .before .before .before .before .before .before .before .before .before .before .before .before .before .before .pre .1 .3) (c .before .before .before .before .before .head-is .ensures) (c .before .before .before .before .before .before .if3 .left) (c .before .before .before .before .if4 .left) (compared-none _ _ _ _ _ _ _ _ (omega (arith, c .before .before .before .if5 .taken)) (c .before .before .first-place3 .ensures)) refl (c .before .rest-is .ensures) (c .if6 .taken))  -- returns-4
-    (λ c. search needs)  -- add-t28
-    (λ c. flat-same (c .before .before .before .before .before .before .before .before .before .before .before .if1 .left) (c .before .before .before .before .before .before .before .before .flat .ensures (c .before .before .before .before .before .before .before .if2 .taken)) (c .before .before .before .before .before .before .before .before .before .before .before .before .before .before .before .before .pre .1 .0) (c .before .before .before .before .before .before .before .before .before .before .before .before .before .before .before .before .pre .1 .3) (c .before .before .before .before .before .head-is .ensures) (c .before .before .before .before .before .before .if3 .left) (c .before .before .before .before .if4 .left) (compared-none _ _ _ _ _ _ _ _ (omega (arith, c .before .before .before .if5 .taken)) (c .before .before .first-place3 .ensures)) refl (c .before .rest-is .ensures) (c .if6 .left))  -- returns-5
-    (λ c. search needs)  -- add-compare-chain
-    (λ c. search needs)  -- sub-compare-chain
-    (λ c. search needs)  -- add-compare-chain-2
-    (λ c κs. search needs)  -- compare-chain-requires
+    (λ c κs. let p = c .before .before .before .before .before .before .before .before .before .before .before .pre .1 in (p .0, p .3))  -- one-is-requires
+    (λ c. search needs)  -- same-length-2
+    (λ c. no-one t (c .before) (c .if3 .taken))  -- returns-2
+    (λ c κs. search needs)  -- first-place-requires-2
+    (λ c κs. let o = c .before .before .before in (begun-one t o .pre .1 .0, inside-one t o (c .before .before .if3 .left)))  -- rest-is-requires
+    (λ c. search needs)  -- same-length-3
+    (λ c. let l = c .before .before in no-rest-one t (l .before .before .before) (l .before .before .if3 .left) (leaf-one t l) refl (c .before .rest-is .ensures) (c .if5 .taken))  -- returns-3
+    (λ c. let o = c .before .before .before .before .before in omega (arith, inside-one t o (c .before .before .before .before .if3 .left), begun-one t o .pre .1 .0 .most))  -- add-t31
+    (λ c. search needs)  -- same-length-4
+    (λ c. let l = c .before .before in same-one t (l .before .before .before) (l .before .before .if3 .left) (leaf-one t l) refl (c .before .rest-is .ensures) (c .if5 .left))  -- returns-4
+    (λ c. let s = begun-one t (c .before .before .before) in omega (arith, s .pre .1 .2, pos-of-ne-zero (c .before .before .before .before .before .before .before .before .before .if1 .left)))  -- add-compare-chain
+    (λ c. pos-of-ne-zero (c .before .before .before .before .before .before .before .before .before .if1 .left))  -- sub-compare-chain
+    (λ c. let o = c .before .before .before in omega (arith, inside-one t o (c .before .before .if3 .left), begun-one t o .pre .1 .0 .most))  -- add-compare-chain-2
+    -- compare-chain-requires
+    (λ c κs.
+    let o = c .before .before .before .before in
+    let s = begun-one t o in
+    let p = s .pre .1 in
+    let l = pos-of-ne-zero (o .before .before .before .before .before .before .if1 .left) in
+    (omega (arith, s .pre .0), (p .0, scratch-on (p .1) l, omega (arith, p .2), omega (arith, inside-one t o (c .before .before .before .if3 .left)))))
     (λ c. search needs)  -- enum-known-past
     (λ c. search needs)  -- enum-told
-    (λ c. c .before .before .before .before .compare-chain .kept .1 .1 .1 .1 .1 .1 .1 .0)  -- same-length
-    (λ c. flat-not (c .before .before .before .before .before .before .before .before .before .before .before .before .before .before .if1 .left) (c .before .before .before .before .before .before .before .before .before .before .before .flat .ensures (c .before .before .before .before .before .before .before .before .before .before .if2 .taken)) (c .before .before .before .before .before .before .before .before .before .before .before .before .before .before .before .before .before .before .before .pre .1 .0) (c .before .before .before .before .before .before .before .before .before .before .before .before .before .before .before .before .before .before .before .pre .1 .3) (c .before .before .before .before .before .before .before .before .head-is .ensures) (c .before .before .before .before .before .before .before .before .before .if3 .left) (c .before .before .before .before .before .before .before .if4 .left) (c .before .before .before .before .compare-chain .ensures) (c .enum-told .given .1))  -- returns-6
-    (λ c κs. search needs)  -- rest-is-requires-2
-    (λ c. c .before .before .before .before .before .before .before .compare-chain .kept .1 .1 .1 .1 .1 .1 .1 .0)  -- same-length-2
-    (λ c. flat-no-rest (c .before .before .before .before .before .before .before .before .before .before .before .before .before .before .before .before .before .if1 .left) (c .before .before .before .before .before .before .before .before .before .before .before .before .before .before .flat .ensures (c .before .before .before .before .before .before .before .before .before .before .before .before .before .if2 .taken)) (c .before .before .before .before .before .before .before .before .before .before .before .before .before .before .before .before .before .before .before .before .before .before .pre .1 .0) (c .before .before .before .before .before .before .before .before .before .before .before .before .before .before .before .before .before .before .before .before .before .before .pre .1 .3) (c .before .before .before .before .before .before .before .before .before .before .before .head-is .ensures) (c .before .before .before .before .before .before .before .before .before .before .before .before .if3 .left) (c .before .before .before .before .before .before .before .before .before .before .if4 .left) (c .before .before .before .before .before .before .before .compare-chain .ensures) (c .before .before .before .past .given .1) (c .before .rest-is2 .ensures) (c .if7 .taken))  -- returns-7
-    (λ c. c .before .before .before .before .before .before .before .compare-chain .kept .1 .1 .1 .1 .1 .1 .1 .0)  -- same-length-3
-    (λ c. flat-same (c .before .before .before .before .before .before .before .before .before .before .before .before .before .before .before .before .before .if1 .left) (c .before .before .before .before .before .before .before .before .before .before .before .before .before .before .flat .ensures (c .before .before .before .before .before .before .before .before .before .before .before .before .before .if2 .taken)) (c .before .before .before .before .before .before .before .before .before .before .before .before .before .before .before .before .before .before .before .before .before .before .pre .1 .0) (c .before .before .before .before .before .before .before .before .before .before .before .before .before .before .before .before .before .before .before .before .before .before .pre .1 .3) (c .before .before .before .before .before .before .before .before .before .before .before .head-is .ensures) (c .before .before .before .before .before .before .before .before .before .before .before .before .if3 .left) (c .before .before .before .before .before .before .before .before .before .before .if4 .left) (c .before .before .before .before .before .before .before .compare-chain .ensures) (c .before .before .before .past .given .1) (c .before .rest-is2 .ensures) (c .if7 .left))  -- returns-8
-    (λ c κs. search needs)  -- run-is-requires
+    (λ c. c .before .before .before .before .before .before .compare-chain .kept .1 .1 .1 .0)  -- same-length-5
+    (λ c. c .before .before .before .before .before .before .compare-chain .kept .1 .1 .1 .1 .1 .1 .1 .1 .0)  -- same-length-6
+    (λ c. let r = c .before .before .before .before .before .before in not-one t (r .before .before .before .before .before) (r .before .before .before .before .if3 .left) (r .compare-chain .ensures) (c .enum-told .given .1))  -- returns-5
+    (λ c κs. let o = c .before .before .before .before .before .before .before .before .before .before .before .before in (begun-one t o .pre .1 .0, inside-one t o (c .before .before .before .before .before .before .before .before .before .before .before .if3 .left)))  -- rest-is-requires-2
+    (λ c. c .before .before .before .before .before .before .before .before .before .compare-chain .kept .1 .1 .1 .0)  -- same-length-7
+    (λ c. c .before .before .before .before .before .before .before .before .before .compare-chain .kept .1 .1 .1 .1 .1 .1 .1 .1 .0)  -- same-length-8
+    (λ c. let r = c .before .before .before .before .before .before .before .before .before in no-rest-one t (r .before .before .before .before .before) (r .before .before .before .before .if3 .left) (r .compare-chain .ensures) (c .before .before .before .past .given .1) (c .before .rest-is2 .ensures) (c .if6 .taken))  -- returns-6
+    (λ c. c .before .before .before .before .before .before .before .before .before .compare-chain .kept .1 .1 .1 .0)  -- same-length-9
+    (λ c. c .before .before .before .before .before .before .before .before .before .compare-chain .kept .1 .1 .1 .1 .1 .1 .1 .1 .0)  -- same-length-10
+    (λ c. let r = c .before .before .before .before .before .before .before .before .before in same-one t (r .before .before .before .before .before) (r .before .before .before .before .if3 .left) (r .compare-chain .ensures) (c .before .before .before .past .given .1) (c .before .rest-is2 .ensures) (c .if6 .left))  -- returns-7
+    -- run-is-requires
+    (λ c κs.
+    let e = c .before .before .before .before .before .before in
+    let s = e .before .before .before .before .before .before in
+    let p = s .pre .1 in
+    (p .0, p .3, omega (arith, ends-fit (p .1) (pos-of-ne-zero (e .if1 .left)), length-take-le (s .args .n) (s .args .sets .now) (set-fits (p .1)))))
     (λ c. search needs)  -- enum-known-end
     (λ c. search needs)  -- enum-told-2
-    (λ c. c .before .before .before .before .run-is .kept .1 .1 .1 .1 .1 .1 .0)  -- same-length-4
-    (λ c. compared-run _ _ _ _ _ _ _ (c .before .before .before .before .before .before .before .before .before .before .if1 .left) (c .before .before .before .before .before .before .before .before .before .before .before .before .before .before .before .pre .1 .0) (c .before .before .before .before .run-is .ensures) (c .enum-told2 .given .1))  -- returns-9
-    (λ c κs. (c .before .before .before .before .before .before .before .before .before .before .before .before .before .before .before .before .before .pre .1 .0, c .before .before .before .before .before .before .before .before .before .before .before .before .before .before .before .before .before .pre .1 .3, sym (c .before .before .before .before .before .before .run-is .ensures) ∙ c .before .before .end .given .1))  -- last-is-requires
-    (λ c. c .before .before .before .before .before .before .before .run-is .kept .1 .1 .1 .1 .1 .1 .0)  -- same-length-5
-    (λ c. rw (c .before .if8 .taken) (c .last-is .ensures))  -- returns-10
-    (λ c. (compared-start _ _ _ _ _ _ _ (c .before .before .before .before .before .before .before .before .before .before .before .before .if1 .left) (c .before .before .before .before .before .before .before .before .before .before .before .before .before .before .before .before .before .pre .1 .3) (c .before .before .before .before .before .before .run-is .ensures) (c .before .before .end .given .1), search needs, c .before .before .before .before .before .before .run-is .kept .1 .1 .1 .1 .1 .1 .0 ∙ c .before .before .before .before .before .before .before .before .before .before .before .before .before .before .before .before .before .pre .1 .4))  -- loop-holds
-    (λ c. search needs)  -- cast-e
-    (λ c. search needs)  -- mul-e
-    (λ c. search needs)  -- add-e
-    (λ c. search needs)  -- mul-e-2
-    (λ c. search needs)  -- shared-slice-read-e
-    (λ c. search needs)  -- slice-aggregate-narrow
-    (λ c κs. search needs)  -- narrow-requires
-    (λ c. search needs)  -- array-share-prefix-under
-    (λ c. search needs)  -- slice-aggregate-compare-chain
-    (λ c. let p = c .before .before .before .before .before .before .before .before .before .before .before .before .before .before .before .before .before .before .before .before .before .before .before .before .pre .1 in search needs)  -- add-compare-chain-3
-    (λ c. let p = c .before .before .before .before .before .before .before .before .before .before .before .before .before .before .before .before .before .before .before .before .before .before .before .before .pre .1 in search needs)  -- sub-compare-chain-2
-    (λ c κs. let p = c .before .before .before .before .before .before .before .before .before .before .before .before .before .before .before .before .before .before .before .before .before .before .before .before .before .pre .1 in search needs)  -- compare-chain-requires-2
+    (λ c. search needs)  -- same-length-11
+    (λ c. c .before .before .before .before .run-is .kept .1 .1 .1 .1 .1 .1 .0)  -- same-length-12
+    (λ c. let r = c .before .before .before .before in let e = r .before .before .before .before .before .before .before in compared-run _ _ _ _ _ _ _ (e .if1 .left) (e .before .before .before .before .before .before .pre .1 .0) (r .run-is .ensures) (c .enum-told2 .given .1))  -- returns-8
+    (λ c κs. let r = c .before .before .before .before .before .before in let p = r .before .before .before .before .before .before .before .before .before .before .before .before .before .pre .1 in (p .0, p .3, sym (r .run-is .ensures) ∙ c .before .before .end .given .1))  -- last-is-requires
+    (λ c. search needs)  -- same-length-13
+    (λ c. c .before .before .before .before .before .before .before .run-is .kept .1 .1 .1 .1 .1 .1 .0)  -- same-length-14
+    (λ c. rw (c .before .if7 .taken) (c .last-is .ensures))  -- returns-9
+    -- loop-holds
+    (λ c.
+    let r = c .before .before .before .before .before .before in
+    let e = r .before .before .before .before .before .before .before in
+    record { compared = compared-start _ _ _ _ _ _ _ (e .if1 .left) (e .before .before .before .before .before .before .pre .1 .3) (r .run-is .ensures) (c .before .before .end .given .1); set-kept = refl; sets-long = refl; ends-long = refl })
+    (λ c κs. let l = c .before in (begun-loop t l .pre .1 .0, omega (arith, l .loop .inv .compared .hanging .end-in, c .loop-test .taken)))  -- end-at-requires
+    (λ c κs. fits t (c .before .before .before))  -- narrow-requires
+    (λ c. let l = c .before .before .before .before .before .before in record { fits = omega (arith, fits t l, l .loop .inv .sets-long, begun-loop t l .good .1 .1 .1 .0 .1) })  -- mul-compare-chain
+    (λ c. omega (arith, fits t (c .before .before .before .before .before .before), c .before .before .narrow .kept .1 .1 .0))  -- sub-compare-chain-2
+    (λ c. omega (arith, fits t (c .before .before .before .before .before .before), c .before .before .narrow .kept .1 .1 .0))  -- part-compare-chain-start
+    (λ c. search needs)  -- part-compare-chain-end
+    (λ c. let l = c .before .before .before .before .before .before .before in omega (arith, begun-loop t l .pre .1 .2, some-left t l))  -- add-compare-chain-3
+    (λ c. some-left t (c .before .before .before .before .before .before .before))  -- sub-compare-chain-3
+    -- compare-chain-requires-2
+    (λ c κs.
+    let v = c .before .before .before .before in
+    let l = turn-at t v .before in
+    let s = begun-loop t l in
+    let p = s .pre .1 in
+    let w = v .narrow in
+    let x = some-left t l in
+    let sets = w .last .1 .1 .0 in (
+      omega (arith, s .pre .0),
+      (
+        p .0,
+        scratch-under (p .1) x 0 (w .ensures .0) (omega (arith, w .ensures .0)) (omega (arith, fits t l, l .loop .inv .sets-long, w .kept .1 .1 .0, mid-len (s .args .n) (length sets) sets (omega arith))) (omega (arith, ends-kept t l)),
+        omega (arith, p .2),
+        l .loop .inv .compared .hanging .inside,
+      ),
+    ))
     (λ c. search needs)  -- enum-known-past-2
     (λ c. search needs)  -- enum-told-3
-    (λ c. c .before .before .before .before .compare-chain2 .kept .1 .1 .1 .1 .1 .1 .1 .0 ∙ c .before .before .before .before .before .before .before .before .before .before .before .before .loop .inv .2 ∙ sym (c .before .before .before .before .before .before .before .before .before .before .before .before .before .before .before .before .before .before .before .before .before .before .before .before .before .before .before .before .before .before .pre .1 .4))  -- same-length-6
-    (λ c. compared-not (c .before .before .before .before .before .before .before .before .before .before .before .before .before .before .before .before .before .before .before .before .before .before .before .before .before .if1 .left) (c .before .before .before .before .before .before .before .before .before .before .before .before .loop .inv .0) (c .before .before .before .before .before .before .before .before .before .before .before .before .before .before .before .before .before .before .before .before .before .before .before .before .before .before .before .before .before .before .pre .1 .0) (c .before .before .before .before .before .before .before .before .before .before .before .loop-test .taken) (c .before .before .before .before .before .before .before .before .narrow .ensures .1) (c .before .before .before .before .compare-chain2 .ensures) (c .enum-told3 .given .1))  -- returns-11
-    (λ c κs. (c .before .before .before .before .before .before .before .before .before .before .before .before .before .before .before .before .before .before .before .before .before .before .before .before .before .before .before .before .before .before .before .pre .1 .0, omega (arith, c .before .before .before .before .before .before .before .before .before .before .before .before .before .loop .inv .0 .below .end-in, c .before .before .before .before .before .before .before .before .before .before .before .before .loop-test .taken)))  -- rest-is-requires-3
-    (λ c. c .before .before .before .before .before .before .before .compare-chain2 .kept .1 .1 .1 .1 .1 .1 .1 .0 ∙ c .before .before .before .before .before .before .before .before .before .before .before .before .before .before .before .loop .inv .2 ∙ sym (c .before .before .before .before .before .before .before .before .before .before .before .before .before .before .before .before .before .before .before .before .before .before .before .before .before .before .before .before .before .before .before .before .before .pre .1 .4))  -- same-length-7
-    (λ c. compared-no (c .before .before .before .before .before .before .before .before .before .before .before .before .before .before .before .before .before .before .before .before .before .before .before .before .before .before .before .before .if1 .left) (c .before .before .before .before .before .before .before .before .before .before .before .before .before .before .before .loop .inv .0) (c .before .before .before .before .before .before .before .before .before .before .before .before .before .before .before .before .before .before .before .before .before .before .before .before .before .before .before .before .before .before .before .before .before .pre .1 .0) (c .before .before .before .before .before .before .before .before .before .before .before .before .before .before .loop-test .taken) (c .before .before .before .before .before .before .before .before .before .before .before .narrow .ensures .1) (c .before .before .before .before .before .before .before .compare-chain2 .ensures) (c .before .before .before .past2 .given .1) (c .before .rest-is3 .ensures) (c .if9 .taken))  -- returns-12
-    (λ c. search needs)  -- add-i
-    (λ c. search needs)  -- loop-less
-    (λ c. (compared-on (c .before .before .before .before .before .before .before .before .before .before .before .before .before .before .before .before .before .before .before .before .before .before .before .before .before .before .before .before .if1 .left) (c .before .before .before .before .before .before .before .before .before .before .before .before .before .before .before .loop .inv .0) (c .before .before .before .before .before .before .before .before .before .before .before .before .before .before .before .before .before .before .before .before .before .before .before .before .before .before .before .before .before .before .before .before .before .pre .1 .0) (c .before .before .before .before .before .before .before .before .before .before .before .before .before .before .loop-test .taken) (c .before .before .before .before .before .before .before .before .before .before .before .narrow .ensures .1) (c .before .before .before .before .before .before .before .compare-chain2 .ensures) (c .before .before .before .past2 .given .1) (c .before .rest-is3 .ensures) (c .if9 .left), c .before .before .before .before .before .before .before .before .before .before .before .narrow .kept .1 .1 .1 .1 .0 ∙ c .before .before .before .before .before .before .before .before .before .before .before .before .before .before .before .loop .inv .1, c .before .before .before .before .before .before .before .compare-chain2 .kept .1 .1 .1 .1 .1 .1 .1 .0 ∙ c .before .before .before .before .before .before .before .before .before .before .before .before .before .before .before .loop .inv .2))  -- loop-again
-    (λ c. c .before .loop .inv .2 ∙ sym (c .before .before .before .before .before .before .before .before .before .before .before .before .before .before .before .before .before .before .before .pre .1 .4))  -- same-length-8
-    (λ c. compared-end (c .before .before .before .before .before .before .before .before .before .before .before .before .before .before .if1 .left) (c .before .loop .inv .0) (c .loop-test .left))  -- returns-13
+    (λ c. let v = c .before .before .before .before .before .before .before .before .before .before .before in c .before .before .before .before .before .sets3 .given .1 ∙ v .narrow .kept .1 .1 .0 ∙ turn-at t v .before .loop .inv .sets-long)  -- same-length-15
+    (λ c. let r = c .before .before .before .before .before .before in r .compare-chain2 .kept .1 .1 .1 .1 .1 .1 .1 .1 .0 ∙ ends-kept t (r .before .before .before .before .before .before .before .before .before))  -- same-length-16
+    -- returns-10
+    (λ c.
+    let r = c .before .before .before .before .before .before in
+    turn-not (turn t (r .before .before .before .before .before)) (r .compare-chain2 .ensures) (c .enum-told3 .given .1))
+    (λ c κs. let i = c .before .before .before .before .before .before .before .before .before .before .before .before .before .before .before in let l = i .before in (begun-loop t l .pre .1 .0, omega (arith, l .loop .inv .compared .hanging .end-in, i .loop-test .taken)))  -- rest-is-requires-3
+    (λ c. let v = c .before .before .before .before .before .before .before .before .before .before .before .before .before .before in c .before .before .before .before .before .before .before .before .sets3 .given .1 ∙ v .narrow .kept .1 .1 .0 ∙ turn-at t v .before .loop .inv .sets-long)  -- same-length-17
+    (λ c. let r = c .before .before .before .before .before .before .before .before .before in r .compare-chain2 .kept .1 .1 .1 .1 .1 .1 .1 .1 .0 ∙ ends-kept t (r .before .before .before .before .before .before .before .before .before))  -- same-length-18
+    -- returns-11
+    (λ c.
+    let r = c .before .before .before .before .before .before .before .before .before in
+    turn-no (turn t (r .before .before .before .before .before)) (r .compare-chain2 .ensures) (c .before .before .before .past2 .given .1) (c .before .rest-is3 .ensures) (c .if8 .taken))
+    (λ c. let i = c .before .before .before .before .before .before .before .before .before .before .before .before .before .before .before .before .before in let l = i .before in omega (arith, i .loop-test .taken, l .loop .inv .compared .hanging .end-in, begun-loop t l .pre .1 .0 .most))  -- add-i
+    (λ c. omega (arith, c .before .before .before .before .before .before .before .before .before .before .before .before .before .before .before .before .before .loop-test .taken))  -- loop-less
+    -- loop-again
+    (λ c.
+    let r = c .before .before .before .before .before .before .before .before .before in
+    turn-on (turn t (r .before .before .before .before .before)) (r .compare-chain2 .ensures) (c .before .before .before .past2 .given .1) (c .before .rest-is3 .ensures) (c .if8 .left) (r .compare-chain2 .last .1 .1 .1 .0) (c .before .before .before .before .before .before .before .before .sets3 .given .1) (r .compare-chain2 .kept .1 .1 .1 .1 .1 .1 .1 .1 .0))
+    (λ c. c .before .loop .inv .sets-long)  -- same-length-19
+    (λ c. ends-kept t (c .before))  -- same-length-20
+    (λ c. let l = c .before in compared-end (nz-loop t l) (l .loop .inv .compared) (c .loop-test .left))  -- returns-12

@@ -1,6 +1,7 @@
 -- `compare::part_is` meets its contract.
 -- Assumes nothing.
 use Prim.Native.Nat.{ℕ}
+use lib.ListN.{take}
 use borrow.Author.Needs.{needs}
 use Rattle.model.specs.Rules.{Tree}
 use Rattle.rows.specs.Rows.{treeAt}
@@ -10,24 +11,31 @@ use Rattle.compare.proofs.part_is.Tie as tie
 
 -- the tree that is compared
 abbrev tree-of : tie.Start → Tree ℕ
-tree-of s = let a = s .args in treeAt (a .rules .now) 0 (a .fields) (a .set .now)
+tree-of s = let a = s .args in treeAt (a .rules .now) 0 (a .fields) (take (a .n) (a .sets .now))
 
 pub part-is-spec : {M : Type 1} → statement M
 part-is-spec =
     tie.close
     (tie.spec
-    (λ c. search needs)
     (λ c κs. search needs)
+    (λ c. search needs)
+    (λ c. search needs)
     (λ c. search needs)
     (λ c. search needs)
     -- returns
-    (λ c. part-differs _ _ _ (c .before .before .before .compare-chain .ensures) (c .enum-told .given .1))
+    (λ c. let r = c .before .before .before .before .before .before in part-differs _ _ (tree-of (r .before .before .before .before .before .before .before)) (r .compare-chain .ensures) (c .enum-told .given .1))
+    (λ c. search needs)
+    (λ c. search needs)
     (λ c. search needs)
     -- returns-2
-    (λ c. part-no-past _ _ (tree-of (c .before .before .before .before .before .before .before .before .before .before .before)) (c .before .before .before .before .before .before .compare-chain .ensures) (c .before .before .before .past .given .1) (c .if1 .taken))
+    (λ c. let r = c .before .before .before .before .before .before .before .before .before in part-no-past _ _ (tree-of (r .before .before .before .before .before .before .before)) (r .compare-chain .ensures) (c .before .before .before .past .given .1) (c .if1 .taken))
+    (λ c. search needs)
+    (λ c. search needs)
     (λ c. search needs)
     -- returns-3
-    (λ c. part-no-low _ _ (tree-of (c .before .before .before .before .before .before .before .before .before .before .before .before .before)) (c .before .before .before .before .before .before .before .before .compare-chain .ensures) (c .before .before .before .before .before .past .given .1) (c .if2 .taken))
+    (λ c. let r = c .before .before .before .before .before .before .before .before .before .before .before .before in part-no-low _ _ (tree-of (r .before .before .before .before .before .before .before)) (r .compare-chain .ensures) (c .before .before .before .before .before .before .past .given .1) (c .if2 .taken))
     (λ c κs. search needs)
+    (λ c. search needs)
+    (λ c. search needs)
     -- returns-4
-    (λ c. part-rest _ _ (tree-of (c .before .before .before .before .before .before .before .before .before .before .before .before .before .before)) (c .before .before .before .before .before .before .before .before .before .compare-chain .ensures) (c .before .before .before .before .before .before .past .given .1) (c .before .before .before .before .before .before .before .before .before .before .before .before .before .before .pre .0) (c .before .before .before .if1 .left) (c .before .if2 .left) _ (c .free-from .ensures)))
+    (λ c. let r = c .before .before .before .before .before .before .before .before .before .before .before .before .before in let s = r .before .before .before .before .before .before .before in part-rest _ _ (tree-of s) (r .compare-chain .ensures) (c .before .before .before .before .before .before .before .past .given .1) (s .pre .0) (c .before .before .before .before .if1 .left) (c .before .if2 .left) _ (c .free-from .ensures)))

@@ -1,8 +1,11 @@
 -- `lookup::decide` meets its contract: one law for each answer.
 -- Assumes nothing.
 use mathlib.Core.Path.{sym, _∙_}
-use Rattle.lookup.proofs.Steps.{no-place, past-rows, past-rules, rule-at}
+use native.Mathlib.Omega.{arith}
 use borrow.Author.Needs.{needs}
+use borrow.Author.Tests.{not-false}
+use Rattle.table.specs.Rows.{kindOf}
+use Rattle.lookup.proofs.Steps.{no-place, past-rules, rule-at, begun}
 use Rattle.lookup.proofs.decide.Statement.{statement}
 use Rattle.lookup.proofs.decide.Tie as tie
 
@@ -10,6 +13,10 @@ pub decide-spec : {M : Type 1} → statement M
 decide-spec =
     tie.close
     (tie.spec
+    (λ c κs. search needs)
+    (λ c. search needs)
+    (λ c. search needs)
+    (λ c. search needs)
     (λ c. search needs)
     (λ c. search needs)
     (λ c. search needs)
@@ -21,28 +28,54 @@ decide-spec =
     (λ c κs. search needs)
     -- lost
     (λ c.
-    let s = c .before .before .before .before .before .before .before in
-    c .refuse .ensures ∙ no-place (s .args .words .now) _ _ (s .pre .0) (sym (c .before .enum-told .given .1) ∙ c .before .before .before .walk .ensures))
-    (λ c κs. search needs)
-    -- outside the rows
-    (λ c.
-    let s = c .before .before .before .before .before .before .before .before .before in
-    c .refuse2 .ensures ∙ past-rows (s .args .words .now) _ _ (s .pre .0) _ _ (sym (c .before .before .before .place .given .1) ∙ c .before .before .before .before .before .walk .ensures) (search needs))
+    let w = c .before .before .before in
+    let r = w .before .before in
+    let s = r .before .before .before .before in
+    let a = s .args in
+    c .refuse .ensures ∙ no-place (kindOf (a .tops .now) (a .shape)) (a .words .now) (a .values .now) _ _ (s .pre .1) (r .rows-end .ensures .0) (sym (c .before .enum-told .given .1) ∙ w .walk .ensures))
     (λ c. search needs)
     (λ c κs. search needs)
-    -- outside the rules
+    (λ c κs. search needs)
+    -- no rule begins there
     (λ c.
-    let s = c .before .before .before .before .before .before .before .before .before .before .before in
-    c .refuse3 .ensures ∙ past-rules (s .args .words .now) _ _ (s .pre .0) _ _ (sym (c .before .before .before .before .before .place .given .1) ∙ c .before .before .before .before .before .before .before .walk .ensures) (search needs) (search needs))
+    let g = c .before .before in
+    let p = g .before .before .before in
+    let w = p .before .before in
+    let r = w .before .before in
+    let s = r .before .before .before .before in
+    let a = s .args in
+    c .refuse2 .ensures ∙ past-rules (kindOf (a .tops .now) (a .shape)) (a .words .now) (a .values .now) _ _ (s .pre .1) (r .rows-end .ensures .0) _ _ (sym (p .place .given .1) ∙ w .walk .ensures) _ (g .begins .ensures) (c .before .if1 .taken))
     (λ c. search needs)
     (λ c. search needs)
     (λ c. search needs)
     (λ c. search needs)
+    (λ c.
+    let e = c .before .before in
+    let g = e .before in
+    let p = g .before .before .before in
+    let w = p .before .before in
+    let r = w .before .before in
+    let s = r .before .before .before .before in
+    let a = s .args in
+    omega (arith, s .pre .0 .ends, s .pre .3, begun (kindOf (a .tops .now) (a .shape)) _ _ (sym (g .begins .ensures) ∙ not-false _ (e .if1 .left))))
     (λ c. search needs)
     (λ c. search needs)
-    (λ c. search needs)
-    (λ c. search needs)
+    (λ c.
+    let e = c .before .before .before in
+    let g = e .before in
+    let p = g .before .before .before in
+    let w = p .before .before in
+    let r = w .before .before in
+    let s = r .before .before .before .before in
+    let a = s .args in
+    omega (arith, s .pre .0 .ends, s .pre .3, begun (kindOf (a .tops .now) (a .shape)) _ _ (sym (g .begins .ensures) ∙ not-false _ (e .if1 .left))))
     -- the rule
     (λ c.
-    let s = c .before .before .before .before .before .before .before .before .before .before .before .before in
-    rule-at (s .args .words .now) _ _ (s .pre .0) _ _ (sym (c .before .before .before .before .before .before .place .given .1) ∙ c .before .before .before .before .before .before .before .before .walk .ensures) (search needs) (search needs)))
+    let e = c .before .before .before in
+    let g = e .before in
+    let p = g .before .before .before in
+    let w = p .before .before in
+    let r = w .before .before in
+    let s = r .before .before .before .before in
+    let a = s .args in
+    rule-at (kindOf (a .tops .now) (a .shape)) (a .words .now) (a .values .now) _ _ (s .pre .1) (r .rows-end .ensures .0) _ _ (sym (p .place .given .1) ∙ w .walk .ensures) _ (g .begins .ensures) (e .if1 .left)))

@@ -24,7 +24,7 @@ use denote.Laws.{Is, shows}
 use denote.Builtin.{u32}
 use denote.Ref.{RefT}
 use denote.Slice.{sliceVal, ShrSlice, Room, shr-slice-copy}
-use denote.Steps.{peeks, heard, nothing}
+use denote.Steps.{peeks, heard}
 use denote.Struct.Laws as LL
 use denote.Triple.Statement.{Contract, Triple}
 use denote.Triple.Call.{calls-at}
@@ -33,8 +33,8 @@ use denote.Triple.Spec.{Meets, tripleOf}
 use denote.Triple.Table.{entered, cited}
 use denote.Triple.Walked.{says, walkOf, Walks, ends-at, walked, walk-meets}
 use denote.Triple.Clauses.{ensured, lasts}
-use Rattle.table.specs.declared.Rule.{Rule}
-use Rattle.table.proofs.Rule as R
+use Rattle.ipv4.specs.declared.Rule.{Rule}
+use Rattle.ipv4.proofs.Rule as R
 use Rattle.scan.specs.declared.Winner.{Winner}
 use Rattle.scan.specs.Scan.{scanValues}
 use Rattle.scan.proofs.Passed.{stayed, spells, tells, Six, six-vals, six-own, Words, own-six, goes}

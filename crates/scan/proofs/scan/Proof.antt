@@ -46,12 +46,12 @@ use denote.Triple.Walked.{says, walkOf, Walks, ends-at, walked, walk-meets}
 use denote.Triple.Clauses.{ensured, lasts}
 use borrow.Author.Tests.{lt-ltb, le-ltb, ltb-true, ltb-false}
 use Rattle.header.specs.declared.Packet.{Packet}
-use Rattle.table.specs.declared.Rule.{Rule}
-use Rattle.table.proofs.Rule as R
-use Rattle.table.proofs.Rule.Laws as R′
+use Rattle.ipv4.specs.declared.Rule.{Rule}
+use Rattle.ipv4.proofs.Rule as R
+use Rattle.ipv4.proofs.Rule.Laws as R′
 use Rattle.scan.specs.declared.Lead.{Lead}
 use Rattle.scan.specs.declared.Winner.{Winner}
-use Rattle.scan.specs.Scan.{scanValues, started, stepped, through, ended}
+use Rattle.scan.specs.Scan.{scanValues, started, stepped, through, finished}
 use Rattle.scan.proofs.Through.{scan-is, goes-on, at-end}
 use Rattle.scan.proofs.Passed.{stayed, spells, tells, Six, six-vals, six-own, Words, own-six, goes}
 use Rattle.scan.proofs.Lead as L
@@ -89,7 +89,7 @@ record Reached (ys : List Rule) (answer : Winner) : Type 0 where
   lead : Lead
   value : Val
   is : Is L.the-row lead (value ∷ [])
-  answers : ended (through lead (drop i ys)) ≡ answer
+  answers : finished (through lead (drop i ys)) ≡ answer
 
 module _ (ys : List Rule) (answer : Winner) where
   abbrev Nearer : Reached ys answer → Reached ys answer → Type 0
@@ -105,15 +105,15 @@ module _ (ys : List Rule) (answer : Winner) where
     lead = l;
     value = v;
     is = is;
-    answers = ap (λ (m : Lead). ended (through m (drop (t .i + 1) ys))) e ∙ ap ended (goes-on ys none (t .lead) (t .i) less) ∙ t .answers;
+    answers = ap (λ (m : Lead). finished (through m (drop (t .i + 1) ys))) e ∙ ap finished (goes-on ys none (t .lead) (t .i) less) ∙ t .answers;
   }
 
   nearer : (t : Reached ys answer) (less : t .i < length ys) (l : Lead) (v : Val) (is : Is L.the-row l (v ∷ [])) (e : l ≡ stepped (t .lead) (getD ys (t .i) none)) → Nearer (nexts t less l v is e) t
   nearer t less l v is e = omega arith
 
   -- the loop's end
-  ended-at : (t : Reached ys answer) → length ys ≤ t .i → ended (t .lead) ≡ answer
-  ended-at t over = ap ended (sym (at-end ys none (t .lead) (t .i) over)) ∙ t .answers
+  ended-at : (t : Reached ys answer) → length ys ≤ t .i → finished (t .lead) ≡ answer
+  ended-at t over = ap finished (sym (at-end ys none (t .lead) (t .i) over)) ∙ t .answers
 
 module _ {M : Type 1} (𝓤 : URA M) (H : Heap 𝓤) (A : Atoms 𝓤) (mem : Memory → SProp 𝓤) (run : Routine → Fun 𝓤) where
   -- the contracts that the proof cites
@@ -190,8 +190,8 @@ module _ {M : Type 1} (𝓤 : URA M) (H : Heap 𝓤) (A : Atoms 𝓤) (W : Given
   goes-finish l v il =
       qed W [] ∵ nothing ! $ owned ! L.the-row (Is L.the-row) (LL.makes L.the-type L′.the-plain 𝓤 H A) l (v ∷ []) il $ fjoin ! $ nothing ! $ join ! $ frame ! $ done !
 
-  finish-said : (l : Lead) (r : Winner) → ent 𝓤 (ensured 𝓤 H A finish.ended (finish.clauses 𝓤 H A mem run) tt (l, tt) tt r) (fact 𝓤 (r ≡ ended l))
-  finish-said l r = exE 𝓤 _ (λ ws. snd∗ 𝓤 (sem 𝓤 H A (lasts finish.ended tt (l, tt) ws)) (fact 𝓤 (r ≡ ended l)))
+  finish-said : (l : Lead) (r : Winner) → ent 𝓤 (ensured 𝓤 H A finish.ended (finish.clauses 𝓤 H A mem run) tt (l, tt) tt r) (fact 𝓤 (r ≡ finished l))
+  finish-said l r = exE 𝓤 _ (λ ws. snd∗ 𝓤 (sem 𝓤 H A (lasts finish.ended tt (l, tt) ws)) (fact 𝓤 (r ≡ finished l)))
 
   -- THE LOOP. The locals: _0 the result; _1 the slice; _2 to _7 the numbers; _8 the lead; _9 the place i; _10 the list's length, and then how far record i lies from the first; _11 the test; _12 where record i lies; _13 its copy.
   module _ (𝓣 : Tables 𝓤 H) (known-step : Triple 𝓤 (𝓣 .C #scan·step) (Step 𝓤 H A mem run)) (known-finish : Triple 𝓤 (𝓣 .C #scan·finish) (Finish 𝓤 H A mem run)) (q′ : Share) (l₀ l₁ l₂ l₃ l₄ l₅ l₆ l₇ l₈ l₉ l₁₀ l₁₁ l₁₂ l₁₃ : ℕ) where
@@ -267,7 +267,7 @@ module _ {M : Type 1} (𝓤 : URA M) (H : Heap 𝓤) (A : Atoms 𝓤) (W : Given
         use0 W (raw (Finish 𝓤 H A mem run .pre (to-finish (t .lead) (t .value)))) (goes-finish (t .lead) (t .value) (t .is)) $
         calls-at ! fm (Finish 𝓤 H A mem run) known-finish (to-finish (t .lead) (t .value)) (and-then ! (load ! (from ! (stop !)) (look ! 13 refl)) (no-more !)) (λ u.
         use1 W (later (some (λ (r : Winner). (‵ ftrue ⊛ ‵ (Win.the-row .own r (u ∷ []))) ⊛ raw (ensured 𝓤 H A finish.ended (finish.clauses 𝓤 H A mem run) tt (t .lead, tt) tt r)))) (id⊢ 𝓤 _) $ await ! tt $ pick ! (λ r.
-        split ! $ move ! (1 ∷ []) $ use1 W (raw (fact 𝓤 (r ≡ ended (t .lead)))) (finish-said (t .lead) r) $ heard ! (r ≡ ended (t .lead)) (λ e. split ! $ lose ! $
+        split ! $ move ! (1 ∷ []) $ use1 W (raw (fact 𝓤 (r ≡ finished (t .lead)))) (finish-said (t .lead) r) $ heard ! (r ≡ finished (t .lead)) (λ e. split ! $ lose ! $
         -- [the result; the token; what the slice owns; _13; …]
         peeks ! Win.the-row (Is Win.the-row) (shows 𝓤 H A Win.the-row) r (u ∷ []) (λ is.
         land ! (from ! (stop !)) (init ! 29 refl (LL.lawful Win.the-type Win′.the-laws 𝓤 H A W .typed r _ is .0)) $
@@ -287,8 +287,8 @@ module _ {M : Type 1} (𝓤 : URA M) (H : Heap 𝓤) (A : Atoms 𝓤) (W : Given
   -- THE WALK
   module _ (𝓣 : Tables 𝓤 H) (known-start : Triple 𝓤 (𝓣 .C #scan·start) (Start 𝓤 H A mem run)) (known-step : Triple 𝓤 (𝓣 .C #scan·step) (Step 𝓤 H A mem run)) (known-finish : Triple 𝓤 (𝓣 .C #scan·finish) (Finish 𝓤 H A mem run)) where
     -- no record was looked at yet
-    first-answers : (l : Lead) → l ≡ started a packet → ended (through l (drop 0 ys)) ≡ answer
-    first-answers l e = ap (λ (m : Lead). ended (through m ys)) e ∙ scan-is packet ys a
+    first-answers : (l : Lead) → l ≡ started a packet → finished (through l (drop 0 ys)) ≡ answer
+    first-answers l e = ap (λ (m : Lead). finished (through m ys)) e ∙ scan-is packet ys a
 
     abbrev begins : (l : Lead) (v : Val) → Is L.the-row l (v ∷ []) → l ≡ started a packet → Reached ys answer
     begins l v is e = record { i = 0; lead = l; value = v; is = is; answers = first-answers l e }

@@ -1,92 +1,61 @@
--- `store::read` meets its contract: the tests in their order.
+-- `store::read` meets its contract: what is found, or zeros.
 -- Assumes nothing.
 use borrow.Author.Needs.{needs}
-use borrow.Author.Tests.{not-true, not-false}
-use Prim.Native.Nat.{_<_, _≤_}
-use mathlib.Core.Path.{_≡_, sym, _∙_}
-use mathlib.Core.Bool.{true, false}
-use mathlib.Core.List.{List}
+use mathlib.Core.Path.{_≡_, refl, sym, ap, subst, _∙_}
 use native.Mathlib.Omega.{arith}
-use lib.ListN.{length, getD}
+use Prim.Native.Nat.{suc, _*_}
 use Rattle.model.specs.Ipv4.{ipv4}
-use Rattle.stored.specs.Store.{passes}
-use Rattle.stored.proofs.Sound.{Sound, sound, Roomy}
-use Rattle.store.proofs.Laws.{sound-room}
-use Rattle.store.proofs.Answers.{read-9, read-default, read-1, read-4, read-0}
+use Rattle.model.specs.Table.{Kind, readRule}
+use Rattle.table.specs.Rows.{ruleIn}
+use Rattle.layout.specs.Store.{rowsOf, tableOf, readSays}
+use Rattle.store.proofs.Chosen.{shaped, scratch, read-no, read-yes, read-passes, rows-here}
 use Rattle.store.proofs.read.Statement.{statement}
 use Rattle.store.proofs.read.Tie as tie
-
--- behind the check's test the store passes
-module _ (c : tie.Else1) where
-  pass : passes ipv4 (c .before .before .before .args .words .now) ≡ true
-  pass = sym (c .before .check .ensures) ∙ not-false _ (c .if1 .left)
-
-  good : Sound (c .before .before .before .args .words .now)
-  good = sound (c .before .before .before .args .words .now) pass
-
-  long : 1024 ≤ length (c .before .before .before .args .words .now)
-  long = omega (arith, sound-room (c .before .before .before .args .words .now) good .long)
-
-returns : tie.Need-returns
-returns c =
-    let a = c .before .before .before .before .args in
-    let r = read-9 (a .words .now) (a .number) (sym (c .before .before .check .ensures) ∙ not-true _ (c .before .if1 .taken)) in
-    (c .refused .ensures .0 ∙ r .0, c .refused .ensures .1 ∙ r .1)
-
-returns-2 : tie.Need-returns-2
-returns-2 c =
-    let a = c .before .before .before .before .before .before .args in
-    let r = read-default (a .words .now) (a .number) (pass (c .before .before .before)) (c .before .before .if2 .taken) in
-    (c .found .ensures .0 ∙ r .0, c .found .ensures .1 ∙ r .1)
-
-returns-3 : tie.Need-returns-3
-returns-3 c =
-    let a = c .before .before .before .before .before .before .args in
-    let r = read-1 (a .words .now) (a .number) (pass (c .before .before .before)) (c .before .before .if2 .left) (c .before .if3 .taken) in
-    (c .refused2 .ensures .0 ∙ r .0, c .refused2 .ensures .1 ∙ r .1)
-
-returns-4 : tie.Need-returns-4
-returns-4 c =
-    let a = c .before .before .before .before .before .before .before .before .before .before .before .before .before .args in
-    let r = read-4 (a .words .now) (a .number) (pass (c .before .before .before .before .before .before .before .before .before .before)) (c .before .before .before .before .before .before .before .before .before .if2 .left) (c .before .before .before .before .before .before .before .before .if3 .left) (sym (c .before .before .stands-behind .ensures) ∙ not-true _ (c .before .if4 .taken)) in
-    (c .refused3 .ensures .0 ∙ r .0, c .refused3 .ensures .1 ∙ r .1)
-
-returns-5 : tie.Need-returns-5
-returns-5 c =
-    let a = c .before .before .before .before .before .before .before .before .before .before .before .before .before .before .args in
-    let p = c .before .before .before .before .before .before2 in
-    let r = read-0 (a .words .now) (a .number) (pass (c .before .before .before .before .before .before .before .before .before .before .before)) (c .before .before .before .before .before .before .before .before .before .before .if2 .left) (c .before .before .before .before .before .before .before .before .before .if3 .left) (sym (c .before .before .before .stands-behind .ensures) ∙ not-false _ (c .before .before .if4 .left)) (p .result) (p .ensures .0) in
-    (c .found2 .ensures .0 ∙ r .0, c .found2 .ensures .1 ∙ r .1)
 
 pub read-spec : {M : Type 1} → statement M
 read-spec =
     tie.close
     (tie.spec
     (λ c κs. search needs)
+    (λ c. search needs)
+    (λ c. search needs)
+    (λ c. search needs)
+    -- find-requires
+    (λ c κs.
+    let h = c .before .before .before in
+    (shaped _ (h .shape .ensures), scratch _ (h .shape .ensures) _ _ refl refl))
     (λ c κs. search needs)
-    returns
+    -- returns
+    (λ c.
+    let h = c .before .before .before .before .before .before .before .before .before in
+    let f = c .before .before .before .before .before in
+    let s = c .before .before .before .before .before .before .before .before .before .before .before in
+    let e = c .refused .ensures in
+    let g = s .args in let d = subst (λ (q : Kind). (f .find .result .answer ≡ readSays q (g .words .now) (g .number)) × (f .find .result .answer ≡ 0 → ruleIn 5 (rowsOf q (g .words .now)) (f .find .result .row) ≡ readRule q (tableOf q (g .words .now)) (g .number))) (h .shape .ensures) (f .find .ensures) in (e .0 ∙ d .0, read-no ipv4 (g .words .now) (g .number) _ _ (d .0) (c .before .if1 .taken) (e .1)))
+    (λ c. search needs)
+    -- rows-end-requires
+    (λ c κs.
+    let h = c .before .before .before .before .before .before .before .before .before in
+    let w = shaped _ (h .shape .ensures) in
+    (w .narrow, w .few, w .short))
     (λ c. search needs)
     (λ c. search needs)
-    (λ c. omega (arith, long (c .before)))
+    (λ c. search needs)
+    (λ c. search needs)
+    -- part-rule-at-end
+    (λ c.
+    let h = c .before .before .before .before .before .before .before .before .before .before in
+    let f = c .before .before .before .before .before .before in
+    let q1 = c .before .before in
+    let s = c .before .before .before .before .before .before .before .before .before .before .before .before in
+    let w = c .rows-end .ensures in
+    let g = s .args in let d = subst (λ (q : Kind). (f .find .result .answer ≡ readSays q (g .words .now) (g .number)) × (f .find .result .answer ≡ 0 → ruleIn 5 (rowsOf q (g .words .now)) (f .find .result .row) ≡ readRule q (tableOf q (g .words .now)) (g .number))) (h .shape .ensures) (f .find .ensures) in let r = read-passes (g .words .now) (g .number) (sym (q1 .if1 .left) ∙ d .0) in omega (arith, r, w .0, ap (λ (k : Kind). k .head) (h .shape .ensures), ap (λ (k : Kind). k .width * suc (k .most)) (h .shape .ensures)))
     (λ c κs. search needs)
-    returns-2
-    (λ c κs. search needs)
-    returns-3
-    (λ c. omega (arith, long (c .before .before .before)))
-    (λ c. search needs)
-    (λ c. search needs)
-    (λ c. omega (arith, long (c .before .before .before)))
-    (λ c. search needs)
-    (λ c κs. let s = good (c .before .before .before .before .before) in (s .few, s .rising))
-    (λ c. search needs)
-    (λ c. search needs)
-    (λ c. omega (arith, long (c .before .before .before .before .before .before)))
-    (λ c κs. let s = good (c .before .before .before .before .before .before .before) in (s .few, s .rising, c .before .before2 .ensures .0))
-    (λ c κs. search needs)
-    returns-4
-    (λ c. search needs)
-    (λ c. search needs)
-    (λ c. omega (arith, long (c .before .before .before .before .before .before .before .before .before)))
-    (λ c. record { fits = omega (arith, c .before .before .before .before .before2 .ensures .1, good (c .before .before .before .before .before .before .before .before .before .before) .few) })
-    (λ c κs. search needs)
-    returns-5)
+    -- returns-2
+    (λ c.
+    let h = c .before .before .before .before .before .before .before .before .before .before .before .before in
+    let f = c .before .before .before .before .before .before .before .before in
+    let q1 = c .before .before .before .before in
+    let w = c .before .before in
+    let s = c .before .before .before .before .before .before .before .before .before .before .before .before .before .before in
+    let g = s .args in let d = subst (λ (q : Kind). (f .find .result .answer ≡ readSays q (g .words .now) (g .number)) × (f .find .result .answer ≡ 0 → ruleIn 5 (rowsOf q (g .words .now)) (f .find .result .row) ≡ readRule q (tableOf q (g .words .now)) (g .number))) (h .shape .ensures) (f .find .ensures) in (sym (q1 .if1 .left) ∙ d .0, read-yes ipv4 (g .words .now) (g .number) _ _ (d .0) (q1 .if1 .left) (c .rule-at .ensures ∙ (ap (λ rows. ruleIn 5 rows (f .find .result .row)) (rows-here _ (h .shape .ensures) (g .words .now) _ (w .rows-end .ensures .0)) ∙ d .1 (q1 .if1 .left))))))

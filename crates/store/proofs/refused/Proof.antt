@@ -1,4 +1,4 @@
--- `store::refused` meets its contract.
+-- `store::refused` meets its contract: zeros.
 -- Assumes nothing.
 use mathlib.Core.Path.{refl}
 use Rattle.model.specs.Lists.{upTo}
@@ -10,7 +10,4 @@ unfolding upTo
 returns c = (refl, refl)
 
 pub refused-spec : {M : Type 1} → statement M
-refused-spec =
-    tie.close
-    (tie.spec
-    returns)
+refused-spec = tie.close (tie.spec returns)

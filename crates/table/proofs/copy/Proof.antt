@@ -68,4 +68,4 @@ copy-spec =
     let r = c .before .before .before .before .reach .ensures in
     let e : c .before .before .before .loop .i ≡ c .before .before .before .before .reach .result = omega (arith, c .before .before .before .loop .inv .1, c .before .before .loop-test .left) in
     let f : c .before .loop2 .i ≡ c .before .before .before .before .before .before .before .args .end = omega (arith, c .before .loop2 .inv .1, c .loop2-test .left) in
-    copied-all (c .before .before .before .loop .inv .3) (rw f at (c .before .loop2 .inv .3)) (c .before .before .before .loop .inv .0) (λ h. omega (arith, e, r .3 (omega arith)))))
+    copied-all (c .before .before .before .loop .inv .3) (rw f at (c .before .loop2 .inv .3)) (c .before .before .before .loop .inv .0) (omega (arith, e, r .1)) (λ h. omega (arith, e, r .3 (omega arith)))))

@@ -1,8 +1,8 @@
--- `table::put` meets its contract: the copies come to what the definition says of each place.
+-- `table::put` meets its contract: words moved up, and a row written where they were.
 -- Assumes nothing.
-use mathlib.Core.Path.{refl, _∙_}
+use mathlib.Core.Path.{_∙_}
 use borrow.Author.Needs.{needs}
-use Rattle.table.proofs.Copies.{put-copied}
+use Rattle.table.proofs.Copies.{put-moved}
 use Rattle.table.proofs.put.Statement.{statement}
 use Rattle.table.proofs.put.Tie as tie
 
@@ -10,12 +10,13 @@ pub put-spec : {M : Type 1} → statement M
 put-spec =
     tie.close
     (tie.spec
-    (λ c. search needs)
-    (λ c κs. search needs)
-    (λ c. search needs)
     (λ c κs. search needs)
     (λ c. search needs)
     (λ c κs. search needs)
     (λ c. search needs)
     -- returns
-    (λ c. put-copied (c .before .before .before .before .before .before .before .before .before .before .before .before .before .before .before .args .place) _ refl (c .before .before .before .before .before .before .before .before .before .before .copy .ensures) (c .before .before .before .before .before .before .copy2 .ensures) (c .before .before .copy3 .ensures) (c .before .before .copy3 .kept .1 .1 .0 ∙ (c .before .before .before .before .before .before .copy2 .kept .1 .1 .0 ∙ (c .before .before .before .before .before .before .before .before .before .before .copy .kept .1 .1 .0 ∙ c .before .before .before .before .before .before .before .before .before .before .before .before .before .before .before .pre .1)))))
+    (λ c.
+    let y = c .before .before in
+    let x = y .before .before .before .before in
+    let a = x .before .before .before .before .args in
+    put-moved (a .width) (a .at) (x .move-up .ensures) (y .copy .ensures) (y .copy .kept .1 .1 .0 ∙ x .move-up .kept .0)))

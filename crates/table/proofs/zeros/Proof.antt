@@ -10,10 +10,10 @@ use Rattle.table.proofs.zeros.Statement.{statement}
 use Rattle.table.proofs.zeros.Tie as tie
 
 abbrev Inv-loop : tie.InvT-loop
-Inv-loop rows from i₀ i = (from ≤ i) × (i ≤ 975) × ((j : ℕ) → from ≤ j → j < i → getD rows j 0 ≡ 0)
+Inv-loop rows from to i₀ i = (from ≤ i) × (i ≤ to) × ((j : ℕ) → from ≤ j → j < i → getD rows j 0 ≡ 0)
 
 abbrev μ-loop : tie.MeasureT-loop
-μ-loop rows from i₀ i = 975 - i
+μ-loop rows from to i₀ i = to - i
 
 returns : tie.Need-returns Inv-loop μ-loop
 returns c =

@@ -1,6 +1,6 @@
 -- `tally::place_of` meets its contract. The loop's invariant: none of the keys passed is the number's, and `free` is the first unused place among them, or the number of keys.
 -- Assumes nothing.
-use mathlib.Core.Path.{_≡_, sym, _∙_}
+use mathlib.Core.Path.{sym, _∙_}
 use Prim.Native.Nat.{_≤_, _-_}
 use native.Mathlib.Omega.{arith}
 use borrow.Author.Needs.{needs}

@@ -1,0 +1,86 @@
+-- What is read of a store that passes, by the tests that lead to each answer: where a rule stands, and the cells in use.
+-- Assumes nothing.
+use mathlib.Core.Path.{_≡_, refl, sym, ap, _∙_}
+use mathlib.Core.Logic.{inl, inr}
+use mathlib.Core.Bool.{true, false}
+use mathlib.Core.List.{List, [], _∷_}
+use Prim.Native.Nat.{ℕ, suc, _+_, _-_, _*_, _≤_, _<_}
+use native.Mathlib.Omega.{arith}
+use native.Mathlib.Numerals.{add-one}
+use lib.Dec.{eqb}
+use lib.ListN.{length, getD, take, drop}
+use borrow.Author.Tests.{lt-ltb, le-ltb, eq-eqb, ne-eqb, eqb-true}
+use Rattle.model.specs.Lists.{In}
+use Rattle.model.specs.Table.{Kind, Shaped, rowWords, Rule, defaultRule, stands, ruleAt, readRule}
+use Rattle.model.proofs.Tests.{by-test, never}
+use Rattle.model.proofs.Limits.{in-rising, one-number}
+use Rattle.table.specs.Rows.{noRule, placed, ruleIn, tableIn, ahead}
+use Rattle.table.proofs.Edits.{at-stands}
+use Rattle.layout.specs.Store.{rowsOf, tableOf, passes, readSays, cellsSays, cellsGives}
+use Rattle.layout.proofs.Words.{in-getD, rule-at}
+use Rattle.layout.proofs.Sound.{sound}
+use Rattle.layout.proofs.Passed.{sound-within, sound-free}
+
+-- READ
+rule-none : (d : Rule) (n : ℕ) (rs : List Rule) → ((r : Rule) → In r rs → r .number ≡ n → ⊥) → ruleAt d n rs ≡ d
+rule-none d n [] h = refl
+rule-none d n (x ∷ rs) h = rw (ne-eqb (x .number) n (h x (inl refl))) (rule-none d n rs (λ r m. h r (inr m)))
+
+rule-in : (d : Rule) (n : ℕ) (rs : List Rule) → stands n rs ≡ true → In (ruleAt d n rs) rs × (ruleAt d n rs .number ≡ n)
+rule-in d n [] s = never (sym s)
+rule-in d n (x ∷ rs) s = by-test (eqb (x .number) n)
+    (λ t. rw t (inl refl, eqb-true (x .number) n t))
+    (λ t. let i = rule-in d n rs (rw t at s) in rw t (inr (i .0), i .1))
+
+module _ (k : Kind) (sh : Shaped k) (ws : List ℕ) (n : ℕ) where
+  pub find-9 : passes k ws ≡ false → 9 ≡ readSays k ws n
+  find-9 h = rw h
+
+  module _ (h : passes k ws ≡ true) where
+    row-is : (p : ℕ) → p ≤ length (tableOf k ws .rules) → ruleIn (length (k .tops)) (rowsOf k ws) (k .width * p) ≡ placed k (tableOf k ws) p
+    row-is p l = ap (λ rows. ruleIn (length (k .tops)) rows (k .width * p)) (sound k sh ws h .rows) ∙ rule-at k sh (tableOf k ws) (sound-within k sh ws (sound k sh ws h)) p l
+
+    pub find-default : n ≡ 65535 → (0 ≡ readSays k ws n) × (ruleIn (length (k .tops)) (rowsOf k ws) 0 ≡ readRule k (tableOf k ws) n)
+    unfolding placed
+    find-default e =
+        let z : eqb n 65535 ≡ true = eq-eqb n 65535 e in
+        let d = defaultRule k (tableOf k ws .action) in
+        let y : ruleAt d n (tableOf k ws .rules) ≡ d = rule-none d n (tableOf k ws .rules) (λ r m q. omega (arith, in-rising 0 (tableOf k ws .rules) (sound k sh ws h .rising) r m .1)) in
+        let x : k .width * 0 ≡ 0 = omega arith in (rw (h, z), (rw x at (row-is 0 (omega arith))) ∙ sym y)
+
+    module _ (o : n ≡ 65535 → ⊥) where
+      pub find-1 : 65534 < n → 1 ≡ readSays k ws n
+      find-1 l = rw (h, ne-eqb n 65535 o, lt-ltb 65534 n l)
+
+      module _ (l : n ≤ 65534) where
+        pub find-4 : stands n (tableOf k ws .rules) ≡ false → 4 ≡ readSays k ws n
+        find-4 s = rw (h, ne-eqb n 65535 o, le-ltb 65534 n l, s)
+
+        pub find-0 : stands n (tableOf k ws .rules) ≡ true → (p : ℕ) → p ≡ ahead n (tableOf k ws .rules) → (0 ≡ readSays k ws n) × (ruleIn (length (k .tops)) (rowsOf k ws) (k .width * (p + 1)) ≡ readRule k (tableOf k ws) n)
+        unfolding placed
+        find-0 s p e =
+            let R = tableOf k ws .rules in
+            let d = defaultRule k (tableOf k ws .action) in
+            let up = sound k sh ws h .rising in
+            let a = at-stands n noRule 0 R up s in
+            let i = rule-in d n R s in
+            let y : getD R (ahead n R) noRule ≡ ruleAt d n R = one-number 0 R up (getD R (ahead n R) noRule) (ruleAt d n R) (in-getD R (ahead n R) noRule (a .0)) (i .0) (a .1 ∙ sym (i .1)) in (
+              rw (h, ne-eqb n 65535 o, le-ltb 65534 n l, s),
+              ap (λ i. ruleIn (length (k .tops)) (rowsOf k ws) (k .width * i)) (add-one p ∙ ap suc e) ∙ row-is (suc (ahead n R)) (omega (arith, a .0)) ∙ y,
+            )
+
+-- the rows as a slice of the words: E is the code's end of them
+module _ (k : Kind) (ws : List ℕ) (E : ℕ) (f : E ≡ k .head + rowWords k) where
+  pub slice-rows : take (E - k .head) (drop (k .head) ws) ≡ rowsOf k ws
+  slice-rows = let z : E - k .head ≡ rowWords k = omega arith in ap (λ m. take m (drop (k .head) ws)) z
+
+  pub slice-table : tableIn k (getD ws 1 0) (take (E - k .head) (drop (k .head) ws)) ≡ tableOf k ws
+  slice-table = ap (tableIn k (getD ws 1 0)) slice-rows
+
+-- CELLS
+module _ (k : Kind) (sh : Shaped k) (ws : List ℕ) where
+  pub cells-refused : passes k ws ≡ false → (9 ≡ cellsSays k ws) × (0 ≡ cellsGives k ws)
+  cells-refused h = (rw h, rw h)
+
+  pub cells-done : passes k ws ≡ true → (E : ℕ) → E ≡ k .head + rowWords k → (0 ≡ cellsSays k ws) × (getD ws E 0 ≡ cellsGives k ws)
+  cells-done h E f = (rw h, rw (h, f) (sound-free k sh ws (sound k sh ws h)))

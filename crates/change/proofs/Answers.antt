@@ -1,0 +1,138 @@
+-- What the edits answer and leave, by what they decide; and what an answer 0 says of the table before and after.
+-- Assumes nothing.
+use mathlib.Core.Path.{_≡_, sym, ap, ap₂, _∙_}
+use mathlib.Core.Bool.{true, false}
+use mathlib.Core.List.{List, [], _++_}
+use Prim.Native.Nat.{ℕ, _+_, _-_, _≤_, _<_}
+use native.Mathlib.Omega.{arith}
+use lib.Dec.{ltb}
+use lib.ListN.{length, getD, take, drop}
+use lib.Seq.{take-add}
+use borrow.Rule.Slice.PartMut.{putMid, take-put}
+use borrow.Author.Tests.{eq-eqb, ne-eqb}
+use Rattle.model.specs.Table.{Kind, Shaped, rowWords, Rule, cellsOf, within, stands, withRule, without, insertAnswer, deleteAnswer}
+use Rattle.model.proofs.Tests.{by-test}
+use Rattle.model.proofs.Edits.{Taken, taken, length-added, length-removed, insert-within, delete-within, delete-fewer}
+use Rattle.table.specs.Rows.{tableIn, ahead, noRule}
+use Rattle.table.proofs.Edits.{at-stands}
+use Rattle.table.proofs.Place.{ahead-all}
+use Rattle.layout.specs.Store.{headText, cellsIn, tableOf, roomFor, passes, holding, unless, startAnswer, startWords, insertSays, insertWords, deleteSays, deleteWords}
+use Rattle.layout.specs.Inner.{frontText}
+use Rattle.layout.proofs.Parts.{head-of}
+use Rattle.layout.proofs.Sound.{sound, count-is}
+use Rattle.layout.proofs.Passed.{sound-room, sound-within, sound-most}
+
+-- START
+module _ (k : Kind) (ws : List ℕ) (c a : ℕ) where
+  pub start-refused : roomFor k c ws ≡ false → (8 ≡ startAnswer k ws c) × (ws ≡ startWords k ws c a)
+  start-refused h = (rw h, rw h)
+
+  pub start-done : roomFor k c ws ≡ true → (new : List ℕ) → new ≡ holding k c (record { action = a; rules = [] }) ws → (0 ≡ startAnswer k ws c) × (new ≡ startWords k ws c a)
+  start-done h new e = (rw h, rw h e)
+
+-- THE WORDS: what an answer 0 leaves, and what a refusal does
+done : (a : ℕ) (h ws new : List ℕ) → 0 ≡ a → new ≡ h → new ≡ unless a h ws
+done a h ws new e q = rw (eq-eqb a 0 (sym e)) q
+
+kept : (a : ℕ) (h ws : List ℕ) (b : ℕ) → b ≡ a → (b ≡ 0 → ⊥) → ws ≡ unless a h ws
+kept a h ws b e n = rw (ne-eqb a 0 (λ z. n (e ∙ z)))
+
+module _ (k : Kind) (sh : Shaped k) (ws : List ℕ) (r : Rule) where
+  pub insert-done : (new : List ℕ) → 0 ≡ insertSays k ws r → new ≡ holding k (cellsIn ws) (withRule r (tableOf k ws)) ws → new ≡ insertWords k ws r
+  insert-done = done (insertSays k ws r) (holding k (cellsIn ws) (withRule r (tableOf k ws)) ws) ws
+
+  pub insert-kept : (b : ℕ) → b ≡ insertSays k ws r → (b ≡ 0 → ⊥) → ws ≡ insertWords k ws r
+  insert-kept = kept (insertSays k ws r) (holding k (cellsIn ws) (withRule r (tableOf k ws)) ws) ws
+
+module _ (k : Kind) (sh : Shaped k) (ws : List ℕ) (n : ℕ) where
+  pub delete-done : (new : List ℕ) → 0 ≡ deleteSays k ws n → new ≡ holding k (cellsIn ws) (without n (tableOf k ws)) ws → new ≡ deleteWords k ws n
+  delete-done = done (deleteSays k ws n) (holding k (cellsIn ws) (without n (tableOf k ws)) ws) ws
+
+  pub delete-kept : (b : ℕ) → b ≡ deleteSays k ws n → (b ≡ 0 → ⊥) → ws ≡ deleteWords k ws n
+  delete-kept = kept (deleteSays k ws n) (holding k (cellsIn ws) (without n (tableOf k ws)) ws) ws
+
+-- what the answer 0 of an insert says
+pub inserted : (k : Kind) (sh : Shaped k) (ws : List ℕ) (r : Rule) → 0 ≡ insertSays k ws r → (passes k ws ≡ true) × Taken k (cellsIn ws) (tableOf k ws) r
+inserted k sh ws r e = by-test (passes k ws)
+    (λ h. (h, taken k (cellsIn ws) (tableOf k ws) r (sym (e ∙ rw h))))
+    (λ h. absurd (let z : 0 ≡ 9 = e ∙ rw h in omega arith))
+
+-- what the answer 0 of a delete says
+pub deleted : (k : Kind) (sh : Shaped k) (ws : List ℕ) (n : ℕ) → 0 ≡ deleteSays k ws n → (passes k ws ≡ true) × (stands n (tableOf k ws .rules) ≡ true)
+deleted k sh ws n e = by-test (passes k ws)
+    (λ h. by-test (ltb 65534 n)
+    (λ l. absurd (let z : 0 ≡ 1 = e ∙ rw (h, l) in omega arith))
+    (λ l. by-test (stands n (tableOf k ws .rules)) (λ s. (h, s)) (λ s. absurd (let z : 0 ≡ 4 = e ∙ rw (h, l, s) in omega arith))))
+    (λ h. absurd (let z : 0 ≡ 9 = e ∙ rw h in omega arith))
+
+-- THE ROWS AS A SLICE: what is decided of them is decided of the table
+module _ (k : Kind) (ws : List ℕ) (E : ℕ) (f : E ≡ k .head + rowWords k) where
+  rows-slice : take (E - k .head) (drop (k .head) ws) ≡ take (rowWords k) (drop (k .head) ws)
+  rows-slice = let z : E - k .head ≡ rowWords k = omega arith in ap (λ m. take m (drop (k .head) ws)) z
+
+  module _ (h : passes k ws ≡ true) where
+    pub insert-says : (r : Rule) (v x p : ℕ)
+        → (x ≡ insertAnswer k (cellsIn ws) (tableIn k (getD ws 1 0) (take (E - k .head) (drop (k .head) ws))) r) × (x ≡ 0 → p ≡ ahead v (tableIn k (getD ws 1 0) (take (E - k .head) (drop (k .head) ws)) .rules))
+        → (x ≡ insertSays k ws r) × (x ≡ 0 → p ≡ ahead v (tableOf k ws .rules))
+    insert-says r v x p q = let g = rw rows-slice at q in (rw h (g .0), g .1)
+
+    pub delete-says : (v x p : ℕ)
+        → (x ≡ deleteAnswer (tableIn k (getD ws 1 0) (take (E - k .head) (drop (k .head) ws))) v) × (x ≡ 0 → p ≡ ahead v (tableIn k (getD ws 1 0) (take (E - k .head) (drop (k .head) ws)) .rules))
+        → (x ≡ deleteSays k ws v) × (x ≡ 0 → p ≡ ahead v (tableOf k ws .rules))
+    delete-says v x p q = let g = rw rows-slice at q in (rw h (g .0), g .1)
+
+-- a store that fails the check
+pub insert-9 : (k : Kind) (ws : List ℕ) (r : Rule) → passes k ws ≡ false → 9 ≡ insertSays k ws r
+insert-9 k ws r h = rw h
+
+pub delete-9 : (k : Kind) (ws : List ℕ) (n : ℕ) → passes k ws ≡ false → 9 ≡ deleteSays k ws n
+delete-9 k ws n h = rw h
+
+-- AN INSERT THAT IS DONE: the table has room, and the new table is within the limits and fits
+module _ (k : Kind) (sh : Shaped k) (ws : List ℕ) (r : Rule) (e : 0 ≡ insertSays k ws r) where
+  pub insert-room : getD ws 1 0 < k .most
+  insert-room = omega (arith, count-is k sh ws, inserted k sh ws r e .1 .room)
+
+  pub insert-place : (p v : ℕ) → p ≡ ahead v (tableOf k ws .rules) → p ≤ getD ws 1 0
+  insert-place p v f = omega (arith, count-is k sh ws, ahead-all v (tableOf k ws .rules))
+
+  pub insert-count : getD ws 1 0 + 1 ≡ length (withRule r (tableOf k ws) .rules)
+  insert-count = omega (arith, count-is k sh ws, length-added r (tableOf k ws .rules))
+
+  pub insert-right : within k (withRule r (tableOf k ws)) ≡ true
+  insert-right =
+      let h = inserted k sh ws r e .0 in
+      insert-within k (cellsIn ws) (tableOf k ws) r (sound-within k sh ws (sound k sh ws h)) (sym (e ∙ rw h))
+
+  pub insert-cells : cellsOf k (withRule r (tableOf k ws)) ≤ cellsIn ws
+  insert-cells = inserted k sh ws r e .1 .cells
+
+-- A DELETE THAT IS DONE
+module _ (k : Kind) (sh : Shaped k) (ws : List ℕ) (n : ℕ) (e : 0 ≡ deleteSays k ws n) where
+  pub delete-place : (p : ℕ) → p ≡ ahead n (tableOf k ws .rules) → p < getD ws 1 0
+  delete-place p f =
+      let d = deleted k sh ws n e in
+      omega (arith, at-stands n noRule 0 (tableOf k ws .rules) (sound k sh ws (d .0) .rising) (d .1) .0, count-is k sh ws)
+
+  pub delete-count : getD ws 1 0 - 1 ≡ length (without n (tableOf k ws) .rules)
+  delete-count =
+      let d = deleted k sh ws n e in
+      omega (arith, count-is k sh ws, length-removed 0 n (tableOf k ws .rules) (sound k sh ws (d .0) .rising) (d .1))
+
+  pub delete-right : within k (without n (tableOf k ws)) ≡ true
+  delete-right = delete-within k n (tableOf k ws) (sound-within k sh ws (sound k sh ws (deleted k sh ws n e .0)))
+
+  pub delete-cells : cellsOf k (without n (tableOf k ws)) ≤ cellsIn ws
+  delete-cells = omega (arith, delete-fewer k n (tableOf k ws), sound-most k sh ws (sound k sh ws (deleted k sh ws n e .0)))
+
+-- THE FRONT of a store that passes is that of its table, and stays when its cells are emptied
+module _ (k : Kind) (sh : Shaped k) (ws : List ℕ) (h : passes k ws ≡ true) where
+  front-of : take (k .head + rowWords k) ws ≡ frontText k (cellsIn ws) (tableOf k ws)
+  unfolding frontText
+  front-of =
+      let o = sound k sh ws h in
+      let l = sound-room k sh ws o .long in
+      take-add (k .head) (rowWords k) ws ∙ ap₂ _++_ (head-of k sh ws (omega (arith, l)) (o .marked) (o .zeros) ∙ ap (headText k (cellsIn ws)) (sym (count-is k sh ws))) (o .rows)
+
+  pub front-stays : (E m : ℕ) (p : List ℕ) → E ≡ k .head + rowWords k → take E (putMid E m ws p) ≡ frontText k (cellsIn ws) (tableOf k ws)
+  front-stays E m p f = take-put E m ws p (omega (arith, sound-room k sh ws (sound k sh ws h) .long)) ∙ (ap (λ i. take i ws) f ∙ front-of)

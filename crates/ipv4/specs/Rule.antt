@@ -1,0 +1,16 @@
+-- A rule as a caller has it: a struct with two arrays of ends.
+-- Assumes nothing: these are definitions.
+use mathlib.Core.List.{List}
+use Prim.Native.Nat.{ℕ}
+use lib.ListN.{getD}
+use Rattle.model.specs.Lists.{upTo}
+use Rattle.model.specs.Table.{Rule}
+use Rattle.ipv4.specs.declared.Rule.{Rule as Given}
+
+-- the five numbers of an array of ends
+abbrev pub five : List ℕ → List ℕ
+five a = upTo 5 (λ i. getD a i 0)
+
+-- "a rule holds five low ends and five high ends besides its number and action"
+abbrev pub given : Given → Rule
+given r = record { number = r .number; action = r .action; lows = five (r .low); highs = five (r .high) }

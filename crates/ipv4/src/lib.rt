@@ -1,0 +1,81 @@
+// The kind of store of the IPv4 gateway, and a rule as its caller has it: five low and five high ends by field. Here alone the code has the numbers of the layout and of the fields.
+ghost use mathlib.Core.Path.{_≡_};
+ghost use lib.ListN.{length};
+ghost use Rattle.model.specs.Ipv4.{ipv4};
+ghost use Rattle.table.specs.Rows.{kindOf, ruleIn};
+ghost use Rattle.ipv4.specs.Rule.{given};
+use table::Shape;
+
+// The top of each field.
+pub const TOPS: [u32; 5] = [4294967295, 4294967295, 255, 65535, 65535];
+
+// Scratch for the sets of its rules, and for their ends: for each field, and once more, a number for each of 65 rows.
+pub const SCRATCH: usize = 390;
+
+// The shape of its stores.
+pub fn shape() -> Shape
+    ensures { λ r. ⌜ kindOf (ipv4 .tops) r ≡ ipv4 ⌝ }
+{
+    Shape {
+        ports: 3,
+        most: 64,
+        width: 15,
+        head: 47,
+        mark: 0,
+    }
+}
+
+// A rule: five low ends and five high ends besides its number and its action.
+#[repr(C)]
+pub struct Rule {
+    pub number: u32,
+    pub action: u32,
+    pub low: [u32; 5],
+    pub high: [u32; 5],
+}
+
+// The words of a rule's row.
+pub fn row_of(rule: Rule) -> [u32; 12]
+    ensures { λ r. ⌜ (length r ≡ 12) × (ruleIn 5 r 0 ≡ given rule) ⌝ }
+{
+    let low = rule.low;
+    let high = rule.high;
+    [
+        rule.number,
+        rule.action,
+        low[0],
+        high[0],
+        low[1],
+        high[1],
+        low[2],
+        high[2],
+        low[3],
+        high[3],
+        low[4],
+        high[4],
+    ]
+}
+
+// The rule whose row begins at a word of the rows.
+pub fn rule_at(rows: &[u32], place: u32) -> Rule
+    ensures { λ r. ⌜ given r ≡ ruleIn 5 (now (rows .entry)) place ⌝ }
+{
+    Rule {
+        number: table::number(rows, place),
+        action: table::action(rows, place),
+        low: [
+            table::low(rows, place, 0),
+            table::low(rows, place, 1),
+            table::low(rows, place, 2),
+            table::low(rows, place, 3),
+            table::low(rows, place, 4),
+        ],
+        high: [
+            table::high(rows, place, 0),
+            table::high(rows, place, 1),
+            table::high(rows, place, 2),
+            table::high(rows, place, 3),
+            table::high(rows, place, 4),
+        ],
+    }
+}

@@ -1,5 +1,0 @@
-pub mod Named
-pub mod Words
-pub mod Bridge
-pub mod Parts
-pub mod Sound

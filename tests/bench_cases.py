@@ -1,0 +1,140 @@
+#!/usr/bin/env python3
+"""Stored captures, and what the bench program writes for each.
+
+    tests/bench_cases.py --bench CMD.. [--write]
+
+tests/captures/NAME.pcap is a capture and NAME.txt what must be written. The
+captures are made below; --write makes the files anew, the .txt as `cases` has
+it. Without it the stored files must be those made here, and the bench program
+must write the stored text. The reference has to say the same. The last line
+counts.
+"""
+
+import argparse
+import os
+import subprocess
+import sys
+
+from independent import command_line
+from packets import EXAMPLE_OUTPUT, capture_of, example_packets
+from reference import bench_output
+
+FOLDER = os.path.join(os.path.dirname(os.path.abspath(__file__)), 'captures')
+HEAD = 'packet answer rule action reads\n'
+ROWS = ('1 0 10 2 8\n', '2 7 0 0 0\n', '3 0 65535 1 7\n')
+REFUSED = 'refused 12\n'
+
+
+def listed(count, ending):
+    return HEAD + ''.join(ROWS[:count]) + 'end %d %d\n' % (count, ending)
+
+
+def header_of(captured, order, original=None):
+    """A record header: seconds, parts of a second, captured and original length."""
+    return b''.join(n.to_bytes(4, order)
+                    for n in (1, 2, captured, captured if original is None else original))
+
+
+def cases():
+    """(name, capture, what must be written)"""
+    packets = example_packets()
+    udp = packets[0]
+    yield 'refused_no_byte', b'', REFUSED
+    for order in ('big', 'little'):
+        def case(name, capture, text, order=order):
+            return '%s_%s' % (name, order), capture, text
+        whole = capture_of(packets, order)
+        empty = capture_of([], order)
+        first = capture_of(packets[:1], order)
+
+        # how the list ends
+        yield case('edge', whole, EXAMPLE_OUTPUT)
+        yield case('empty_list', empty, listed(0, 0))
+        yield case('record_of_no_bytes', capture_of([b'', udp], order),
+                   HEAD + '1 7 0 0 0\n2 0 10 2 8\nend 2 0\n')
+        yield case('header_cut_at_1', first + header_of(len(udp), order)[:1], listed(1, 1))
+        yield case('header_cut_at_15', first + header_of(len(udp), order)[:15], listed(1, 1))
+        yield case('header_cut_first', empty + header_of(len(udp), order)[:15], listed(0, 1))
+        yield case('no_data', first + header_of(len(udp), order), listed(1, 1))
+        yield case('data_cut', whole[:-1], listed(2, 1))
+        yield case('data_cut_first', first[:-1], listed(0, 1))
+        yield case('too_long', first + header_of(16385, order) + udp, listed(1, 2))
+        yield case('too_long_and_whole', first + header_of(16385, order) + bytes(16385), listed(1, 2))
+        yield case('too_long_by_far', empty + header_of(2 ** 32 - 1, order), listed(0, 2))
+        yield case('longest', first + header_of(16384, order) + udp + bytes(16384 - len(udp)),
+                   HEAD + ROWS[0] + '2 0 10 2 8\nend 2 0\n')
+        yield case('longest_cut', first + header_of(16384, order) + bytes(16383), listed(1, 1))
+        yield case('original_length', first[:-len(udp) - 16]
+                   + header_of(len(udp), order, 2 ** 32 - 1) + udp, listed(1, 0))
+
+        # refused with 12
+        yield case('refused_23_bytes', empty[:23], REFUSED)
+        yield case('refused_magic', capture_of(packets, order, magic=0xA1B2C3D5), REFUSED)
+        yield case('refused_nanoseconds', capture_of(packets, order, magic=0xA1B23C4D), REFUSED)
+        yield case('refused_newer_layout', capture_of(packets, order, magic=0x0A0D0D0A), REFUSED)
+        yield case('refused_major_version', capture_of(packets, order, version=(3, 4)), REFUSED)
+        yield case('refused_minor_version', capture_of(packets, order, version=(2, 3)), REFUSED)
+        yield case('refused_version_swapped', capture_of(packets, order, version=(4, 2)), REFUSED)
+        yield case('refused_link_type', capture_of(packets, order, link=1), REFUSED)
+        yield case('refused_link_type_17th_bit', capture_of(packets, order, link=101 + 2 ** 16), REFUSED)
+        yield case('refused_link_type_top_bit', capture_of(packets, order, link=101 + 2 ** 31), REFUSED)
+
+
+def stored(name):
+    with open(os.path.join(FOLDER, name), 'rb') as file:
+        return file.read()
+
+
+def write(name, content):
+    with open(os.path.join(FOLDER, name), 'wb') as file:
+        file.write(content)
+
+
+def verdict(name, capture, text, bench):
+    """What is wrong with a case, or None."""
+    try:
+        if stored(name + '.pcap') != capture or stored(name + '.txt').decode() != text:
+            return 'the stored files are not those made here'
+    except OSError as why:
+        return str(why)
+    if bench_output(capture) != text:
+        return 'the reference says %r' % bench_output(capture)
+    ran = subprocess.run(bench, input=capture, capture_output=True, timeout=120)
+    if ran.returncode or ran.stdout.decode(errors='replace') != text:
+        return 'status %d, it wrote %r' % (ran.returncode, ran.stdout)
+    return None
+
+
+def main():
+    parser = argparse.ArgumentParser(description='Stored captures for the bench program.')
+    parser.add_argument('--bench', nargs='+', metavar='CMD')
+    parser.add_argument('--write', action='store_true')
+    options = parser.parse_args()
+    if options.write:
+        os.makedirs(FOLDER, exist_ok=True)
+        for name, capture, text in cases():
+            write(name + '.pcap', capture)
+            write(name + '.txt', text.encode())
+        return 0
+    if not options.bench:
+        parser.error('--bench or --write')
+    bench = command_line(options.bench)
+    passed = failed = 0
+    names = set()
+    for name, capture, text in cases():
+        names |= {name + '.pcap', name + '.txt'}
+        wrong = verdict(name, capture, text, bench)
+        if wrong:
+            failed += 1
+            print('FAILED %s: %s' % (name, wrong))
+        else:
+            passed += 1
+    for name in sorted(set(os.listdir(FOLDER)) - names):
+        failed += 1
+        print('FAILED %s: no case is made for this file' % name)
+    print('%d passed, %d failed' % (passed, failed))
+    return 1 if failed or not passed else 0
+
+
+if __name__ == '__main__':
+    sys.exit(main())

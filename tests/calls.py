@@ -1,0 +1,147 @@
+"""Scripts of calls of the library, and trace.c, which makes them: as it is, or under
+valgrind for a trace of its loads and stores or a count of instructions."""
+
+import os
+import platform
+import re
+import shutil
+import subprocess
+import sys
+import tempfile
+from array import array
+from pathlib import Path
+
+from loads import (BASE, CELLS, CHECK, CLEAR, DELETE, DIFFERENCE, FILL, GET, INSERT, LOOKUP,
+                   LOOKUP_PACKET, LOOKUP_TALLY, PLACES, PREFIX, READ, SCAN, START, START_WITH, Call)
+
+ROOT = Path(__file__).resolve().parent.parent
+ARCHIVE = ROOT / 'target/staticlib/libreamstork.a'
+# the words that each call gives
+GIVEN = {START: 1, START_WITH: 1, INSERT: 1, DELETE: 1, CHECK: 1, READ: 13, CELLS: 2, LOOKUP: 4,
+         LOOKUP_PACKET: 4, LOOKUP_TALLY: 4 + 3 * PLACES, SCAN: 3, PREFIX: 3, CLEAR: 0,
+         DIFFERENCE: 1}
+# else valgrind leaves out a load whose value is not used
+EVERY = '--vex-iropt-level=0'
+# the C library copies by instructions that a trace has one line for, not one for each byte
+WIDE = ':'.join('glibc.cpu.x86_rep_%s_threshold=1000000000' % x for x in ('movsb', 'stosb'))
+
+
+def cannot():
+    """Why valgrind can run nothing here, in a line, and whether that is a failure."""
+    if platform.machine() != 'x86_64':
+        return ('this machine is %s and the archive is for x86-64: valgrind cannot run it here, '
+                'so nothing of this part is tried' % platform.machine()), False
+    missing = not shutil.which('valgrind')
+    return "missing: install Debian's package valgrind" if missing else '', missing
+
+
+class Script:
+    """Commands for trace.c, and the calls among them."""
+
+    def __init__(self):
+        self.input, self.calls, self.given = array('I'), [], 0
+        self.words, self.len = [], 0
+
+    def fill(self, words, length=None):
+        """The words of the store from here on, and how many are lent."""
+        self.words, self.len = words, len(words) if length is None else length
+        self.input.extend([FILL, self.len, len(words), *words])
+
+    def get(self, n):
+        self.input.extend([GET, n])
+        self.given += n
+
+    def call(self, op, *numbers, lent=(), packet=b'', tallies=(), count=0):
+        self.input.extend([op, *numbers, *lent])
+        self.calls.append(Call(op, numbers, self.words, self.len, packet, tallies, count))
+        self.given += GIVEN[op]
+
+    def packet(self, packet, tallies=()):
+        padded = array('I', packet + bytes(-len(packet) % 4))
+        self.call(LOOKUP_TALLY if tallies else LOOKUP_PACKET, packet=packet, tallies=tallies,
+                  lent=[*tallies, len(packet), *padded])
+
+    def scan(self, rules, values):
+        records = [x for rule in rules for x in (rule.number, rule.action, *rule.low, *rule.high)]
+        self.call(SCAN, 7, *values, len(rules), lent=records, count=len(rules))
+
+    def insert(self, rule):
+        self.call(INSERT, rule.number, rule.action, lent=(*rule.low, *rule.high))
+
+    def bytes(self):
+        return array('I', [len(self.input), self.given]).tobytes() + self.input.tobytes()
+
+
+def accesses(lines):
+    """The loads and stores of each call, as loads.py has them."""
+    mark, calls, inside = b'%08x,4\n' % BASE, [], False
+    for line in lines:
+        if line[:1] != b' ':
+            continue
+        if line[1:2] == b'S' and line[3:] == mark:
+            inside = not inside
+            if inside:
+                calls.append(array('Q'))
+        elif inside:
+            address, _, size = line[3:].partition(b',')
+            number = int(address, 16) << 16 | int(size) << 8
+            if line[1:2] in b'LM':
+                calls[-1].append(number)
+            if line[1:2] in b'SM':
+                calls[-1].append(number | 1)
+    return calls
+
+
+class Program:
+    """trace.c, linked with an archive."""
+
+    def __init__(self, archive, folder):
+        self.path = Path(folder) / 'trace'
+        subprocess.run([ROOT / 'tests/x86cc', '-std=c11', '-O2', '-Wall', '-Wextra', '-static',
+                        '-no-pie', '-I', ROOT / 'include', ROOT / 'tests/trace.c', archive,
+                        '-o', self.path], check=True)
+
+    def run(self, script):
+        """What the commands give, without a trace."""
+        done = subprocess.run([self.path], input=script.bytes(), stdout=subprocess.PIPE, check=True)
+        return array('I', done.stdout[24:])
+
+    def valgrind(self, script, *options, **more):
+        """Valgrind on the program, and the file of what the program gives."""
+        with tempfile.TemporaryFile() as commands:
+            commands.write(script.bytes())
+            commands.seek(0)
+            results = tempfile.TemporaryFile()
+            p = subprocess.Popen(['valgrind', *options, self.path], stdin=commands, stdout=results,
+                                 env={**os.environ, 'GLIBC_TUNABLES': WIDE}, **more)
+        return p, results
+
+    def trace(self, script):
+        """Each call with what it touches and what it gives."""
+        lines, end = os.pipe()
+        p, results = self.valgrind(script, '--tool=lackey', '--trace-mem=yes', EVERY,
+                                   '--log-fd=%d' % end, pass_fds=[end])
+        os.close(end)
+        with results, os.fdopen(lines, 'rb', 1 << 20) as file:
+            touched = accesses(file)
+            if p.wait() or len(touched) != len(script.calls):
+                sys.exit('trace.c fails under valgrind: status %d' % p.returncode)
+            results.seek(0)
+            self.frame, *self.image = array('Q', results.read(24))
+            given, at = array('I', results.read()), 0
+        for call, numbers in zip(script.calls, touched):
+            yield call, numbers, given[at:at + GIVEN[call.op]]
+            at += GIVEN[call.op]
+
+    def count(self, script, function):
+        """The instructions inside a function, over the whole script, and the last word
+        that the script gives."""
+        p, results = self.valgrind(script, '--tool=callgrind', '--callgrind-out-file=/dev/null',
+                                   '--toggle-collect=' + function, stderr=subprocess.PIPE)
+        with results:
+            said = p.communicate()[1].decode()
+            found = re.search(r'Collected : *(\d+)', said)
+            if p.returncode or not found:
+                sys.exit('trace.c fails under valgrind: status %d\n%s' % (p.returncode, said))
+            results.seek(24)
+            return int(found[1]), array('I', results.read())

@@ -1,0 +1,204 @@
+#!/usr/bin/env python3
+"""The cases of the program `cases`, crates/cases/stdin, without the library.
+
+    tests/case_lines.py [--write]
+
+Two parts of that file repeat one thing many times: 64 rules, and three rules
+deleted in every order. They are written here, between the lines '# written by
+tests/case_lines.py' and '# as far as here'; --write puts them into the file.
+Without it, they must stand there as they are written, and the reference must
+answer every case of the file as the file says. The last line counts cases.
+"""
+
+import argparse
+import itertools
+import os
+import re
+import sys
+
+from reference import Account, BAD_STORE, NOT_READABLE, read_header
+
+ROOT = os.path.join(os.path.dirname(os.path.abspath(__file__)), '..')
+PATH = os.path.join(ROOT, 'crates', 'cases', 'stdin')
+BEGIN, END = '# written by tests/case_lines.py', '# as far as here'
+WRONG = re.compile(r'^# Wrong on purpose')
+
+FULL = '0.0.0.0-255.255.255.255 0.0.0.0-255.255.255.255 0-255 0-65535 0-65535'
+RULES = {
+    10: '10 2 10.0.0.0-10.0.0.255 0.0.0.0-255.255.255.255 17-17 5000-5009 0-65535',
+    20: '20 3 10.0.0.0-10.0.0.127 0.0.0.0-255.255.255.255 0-255 0-65535 0-65535',
+    30: '30 4 10.0.0.0-10.0.0.127 0.0.0.0-255.255.255.255 6-17 80-5009 0-65535',
+}
+# the cells that rules take, beside the default
+CELLS = {(): 5, (10,): 25, (20,): 15, (30,): 25, (10, 20): 40, (10, 30): 49, (20, 30): 25, (10, 20, 30): 49}
+
+
+# ---- the repeated lines -------------------------------------------------
+
+def many_rules():
+    return ['insert %d 5 %s = 0' % (number, FULL) for number in range(64)]
+
+
+def store_of(rules, fill):
+    return (['room 1504 %d = 1504' % fill, 'start 60 1 = 0']
+            + ['insert %s = 0' % RULES[rule] for rule in rules])
+
+
+def deletes():
+    lines = []
+    for order in itertools.permutations(RULES):
+        lines += ['# rules %d, %d and %d go, in this order' % order]
+        lines += store_of(RULES, 0) + ['cells = 0 %d' % CELLS[tuple(RULES)]]
+        for gone in range(1, 4):
+            left = order[gone:]
+            lines += ['delete %d = 0' % order[gone - 1],
+                      'cells = 0 %d' % CELLS[tuple(sorted(left))], 'check = 0', 'swap']
+            lines += store_of(left, 7) + ['same = 1', 'swap']
+    return lines
+
+
+def written(text):
+    """The text with the repeated lines as they are written here."""
+    parts = iter((many_rules(), deletes()))
+    return re.sub('(?ms)^%s\n.*?^%s\n' % (BEGIN, END),
+                  lambda _: '\n'.join([BEGIN] + next(parts) + [END]) + '\n', text)
+
+
+# ---- the cases by the reference -----------------------------------------
+
+def value(word):
+    total = 0
+    for part in word.split('.'):
+        total = 256 * total + int(part)
+    return total
+
+
+def numbers(text):
+    return tuple(value(word) for word in re.split('[ -]+', text.strip()) if word)
+
+
+def padded(answer):
+    return tuple(answer) + (0,) * (16 - len(answer))
+
+
+class Store:
+    """A store in hand or aside: its words are the fill until a start is taken."""
+
+    def __init__(self, length=0, fill=0):
+        self.length, self.fill, self.account = length, fill, None
+
+    def words(self):
+        if self.account is None:
+            return self.length, self.fill
+        return self.length, self.account.c, tuple(self.account.table())
+
+
+class Cases:
+    def __init__(self):
+        self.here, self.aside = Store(), Store()
+
+    def call(self, name, given, packet):
+        return getattr(self, name)(*((packet,) if name in ('packet', 'header') else given))
+
+    def room(self, length, fill):
+        self.here = Store(length, fill)
+        return (length,)
+
+    def swap(self):
+        self.here, self.aside = self.aside, self.here
+        return ()
+
+    def same(self):
+        return (int(self.here.words() == self.aside.words()),)
+
+    def start(self, c, action):
+        account = Account()
+        answer = account.start(self.here.length, c, action)
+        if not answer:
+            self.here.account = account
+        return (answer,)
+
+    def insert(self, number, action, *ends):
+        account = self.here.account
+        return (account.insert(number, action, ends[::2], ends[1::2]) if account else BAD_STORE,)
+
+    def delete(self, number):
+        return (self.here.account.delete(number) if self.here.account else BAD_STORE,)
+
+    def read(self, number):
+        if not self.here.account:
+            return (BAD_STORE,) + (0,) * 12
+        got = self.here.account.read(number)
+        return got[:3] + tuple(end for pair in zip(got[3:8], got[8:]) for end in pair)
+
+    def cells(self):
+        return self.here.account.cells() if self.here.account else (BAD_STORE, 0)
+
+    def check(self):
+        return (0 if self.here.account else BAD_STORE,)
+
+    def lookup(self, *values):
+        found = (self.here.account or self.any_account()).lookup(values)
+        return found if self.here.account or found[0] else (BAD_STORE, 0, 0, 0)
+
+    def any_account(self):
+        account = Account()
+        account.start(2 ** 20, 5)
+        return account
+
+    def packet(self, packet):
+        values = read_header(packet)
+        return self.lookup(*values) if values else (NOT_READABLE, 0, 0, 0)
+
+    def header(self, packet):
+        values = read_header(packet)
+        return (0,) + values if values else (NOT_READABLE,) + (0,) * 5
+
+
+def by_reference(text):
+    """How many cases the reference answers as the text says, and how many not."""
+    cases, passed, failed, wrong = Cases(), 0, 0, False
+    for place, line in enumerate(text.split('\n'), 1):
+        if not line or line.startswith('#'):
+            wrong = bool(WRONG.match(line)) or (wrong and line.startswith('#'))
+            continue
+        left, _, right = line.partition('=')
+        name, _, given = left.partition(' ')
+        hexa = re.match(r'x([0-9a-f]*)', given)
+        packet = bytes.fromhex(hexa[1]) if hexa else b''
+        try:
+            words = numbers(given[hexa.end():] if hexa else given)
+            got = cases.call(name, words, packet)
+            agrees = padded(got) == padded(numbers(right)) and max(words, default=0) < 2 ** 32
+        except (AttributeError, TypeError, ValueError) as why:
+            got, agrees = why, False
+        if agrees != wrong:
+            passed += 1
+        else:
+            failed += 1
+            print('FAILED line %d: %s; the reference says %s' % (place, line, got))
+    return passed, failed
+
+
+def main():
+    parser = argparse.ArgumentParser(description='The cases of crates/cases/stdin by the reference.')
+    parser.add_argument('--write', action='store_true')
+    options = parser.parse_args()
+    with open(PATH) as file:
+        text = file.read()
+    if options.write:
+        with open(PATH, 'w') as file:
+            file.write(written(text))
+        return 0
+    passed, failed = by_reference(text)
+    if written(text) == text and text.count(BEGIN) == 2:
+        passed += 1
+    else:
+        failed += 1
+        print('FAILED crates/cases/stdin: its repeated lines are not up to date, run tests/case_lines.py --write')
+    print('%d passed, %d failed' % (passed, failed))
+    return 1 if failed or not passed else 0
+
+
+if __name__ == '__main__':
+    sys.exit(main())

@@ -1,0 +1,230 @@
+"""What each call of the library may load and store, as docs/TIMING.md and the header
+have it: the rules that trace.py holds a trace to."""
+
+from collections import Counter, namedtuple
+
+from reference import read_header
+
+# The layout of a store, as docs/STORE.md has it.
+FRONT, CELL = 1024, 8          # the words before the cells, and those of a cell
+BEGIN = 1023                   # the word that says where a walk begins
+ROWS, ROW = 47, 15             # where the rows begin, and the words of a row
+PLACES = 65                    # rows, and places of a tally record
+LEAST, MOST = 5, 65536         # cells
+KIND, MARK = 2, 0              # the word that names the kind, and what it says
+FRONT_LOADS = (0, 1, KIND, BEGIN) # what every lookup loads of the front, besides the rule's row
+RULE_LOADS = (0, 1)            # what it loads of that row: number and action
+FIXED = len(FRONT_LOADS) + len(RULE_LOADS)
+RECORD = 12                    # words of a record of a list
+
+# What a packet's header is read from; with ports the four bytes behind it too.
+HEADER_BYTES = {0, 2, 3, 6, 7, 9, *range(12, 20)}
+
+# The commands of trace.c, and where it puts what it lends.
+(FILL, GET, START, START_WITH, INSERT, DELETE, CHECK, READ, CELLS, LOOKUP, LOOKUP_PACKET,
+ LOOKUP_TALLY, SCAN, PREFIX, CLEAR, DIFFERENCE) = range(16)
+BASE, SIZE = 0x300000000, 0x100000
+ENDS, TALLIES, PACKET, RECORDS, STORE = 0x1000, 0x2000, 0x4000, 0x8000, 0x10000
+STACK = 1 << 20
+
+# A call: what it is asked, the words of the store before it and how many are lent, and what else
+# is lent: a packet, a tally record's words, the number of records.
+Call = namedtuple('Call', 'op numbers words len packet tallies count')
+
+
+class Fault(Exception):
+    pass
+
+
+def expect(truth, text, *more):
+    if not truth:
+        raise Fault(text % more if more else text)
+
+
+def differences(got, want):
+    return 'too much at %s, too little at %s' % (sorted(got - want)[:6], sorted(want - got)[:6])
+
+
+class Touched:
+    """The loads and stores of one call. An access is one number: the address, the
+    bytes, and whether it stores. What is lent stands here by its place, as
+    (place, bytes)."""
+
+    def __init__(self, accesses, frame, image):
+        self.loads, self.stores = [], []
+        for access in accesses:
+            address, size, stores = access >> 16, access >> 8 & 255, access & 255
+            if BASE <= address < BASE + SIZE:
+                (self.stores if stores else self.loads).append((address - BASE, size))
+            elif not frame - STACK <= address < frame:
+                expect(image[0] <= address < image[1] and not stores,
+                       '%s at %#x, which is neither lent, nor its stack, nor a constant',
+                       'a store' if stores else 'a load', address)
+
+    def only(self, *lent):
+        for place, size in self.loads + self.stores:
+            expect(any(a <= place and place + size <= a + n for a, n in lent),
+                   'it touches %s, which is not its to touch', name(place))
+
+    def loaded(self, first, count, unit=4):
+        return units(self.loads, first, count, unit)
+
+    def stored(self, first, count, unit=4):
+        return units(self.stores, first, count, unit)
+
+
+def units(accesses, first, count, unit):
+    """The words or bytes from a place on, each as often as it is touched."""
+    return Counter(i for place, size in accesses if first <= place < first + count * unit
+                   for i in range((place - first) // unit, (place - first + size - 1) // unit + 1))
+
+
+def name(place):
+    if place >= STORE:
+        return 'word %d from the start of the store' % ((place - STORE) // 4)
+    return 'byte %#x of what is lent' % place
+
+
+# ---- a lookup
+
+def room_in(call):
+    words = call.words
+    return call.len > 0 and LEAST <= words[0] <= MOST and call.len >= FRONT + CELL * words[0]
+
+
+def size_of(call):
+    """The words of a call's store: behind them nothing may be touched."""
+    if call.op in (START, START_WITH):
+        c = call.numbers[0]
+        fits = LEAST <= c <= MOST and FRONT + CELL * c <= call.len
+        return FRONT + CELL * c if fits else 0
+    return FRONT + CELL * call.words[0] if room_in(call) else call.len
+
+
+def walk(call, values):
+    """The cells of each field that a walk over any words reads, each with 1 or 2 for
+    its next or down, and the place that it comes to: none where it is lost."""
+    if not room_in(call) or call.words[KIND] != MARK:
+        return [], None
+    words, fields = call.words, []
+    c, cell = words[0], words[BEGIN]
+    for value in values:
+        fields.append([])
+        while True:
+            if cell >= c or len(fields[-1]) == c:
+                return fields, None
+            end, following, below = words[FRONT + CELL * cell:][:3]
+            fields[-1].append((cell, 2 if end >= value else 1))
+            if end >= value:
+                break
+            cell = following
+        cell = below
+    place, rest = divmod(cell, ROW)
+    return fields, place if not rest and place <= min(words[1], PLACES - 1) else None
+
+
+def see_walk(call, values, touched, result):
+    fields, place = walk(call, values)
+    loaded = touched.loaded(STORE, call.len)
+    cells = Counter(FRONT + CELL * cell + part for field in fields for cell, way in field
+                    for part in (0, way))
+    front = Counter(FRONT_LOADS)
+    if place is not None:
+        front.update(ROWS + ROW * place + part for part in RULE_LOADS)
+        want = cells + front
+        reads = sum(map(len, fields))
+        expect(result[3] == reads or result[0], 'it counts %d reads, not %d', result[3], reads)
+        expect(sum(loaded.values()) == FIXED + 2 * reads,
+               'it loads %d words of the store, not %d + 2 x %d: %s', sum(loaded.values()), FIXED,
+               reads, differences(loaded, want))
+        expect(loaded == want, 'it loads other words than those of a lookup: %s',
+               differences(loaded, want))
+    else:
+        in_cells = Counter({i: n for i, n in loaded.items() if i >= FRONT})
+        if fields and len(fields[-1]) == call.words[0]:
+            # it stops after c cells, and need not load where the last one leads
+            unused = Counter([FRONT + CELL * fields[-1][-1][0] + 1])
+            cells -= unused - (in_cells - (cells - unused))
+        expect(in_cells == cells, 'it loads other cells than those of the walk: %s',
+               differences(in_cells, cells))
+        expect(not loaded - cells - front, 'it loads more of the front than a lookup: %s',
+               differences(loaded - cells, front))
+
+
+def see_lookup(call, touched, values, result, *lent):
+    expect(not touched.stored(STORE, call.len), 'it writes words of the store')
+    touched.only((STORE, 4 * size_of(call)), *lent)
+    if result[0] in (7, 11):
+        expect(not touched.loaded(STORE, call.len), 'refused, it reads words of the store')
+    else:
+        see_walk(call, values, touched, result)
+
+
+def see_packet(call, touched, result, *lent):
+    packet = call.packet
+    values = read_header(packet)
+    loaded = set(touched.loaded(PACKET, len(packet), 1))
+    ports = {4 * (packet[0] & 15) + i for i in range(4)} if packet else set()
+    expect(loaded <= HEADER_BYTES | ports, 'it loads other bytes of the packet: %s',
+           differences(loaded, HEADER_BYTES | ports))
+    expect(not touched.stored(PACKET, len(packet), 1), 'it writes the packet')
+    see_lookup(call, touched, values, result, (PACKET, len(packet)), *lent)
+
+
+def see_tally(call, touched, result):
+    """The keys are gone over once, up to the one that is held; one place is written."""
+    keys = call.tallies[:PLACES]
+    values = read_header(call.packet)
+    row = None if values is None else walk(call, values)[1]
+    loads = stores = Counter()
+    if row is not None:
+        number = call.words[ROWS + ROW * row]
+        held = number <= 65535 and number in keys
+        free = [i for i, key in enumerate(keys) if key > 65535]
+        place = keys.index(number) if held else free[0] if free else None
+        loads = Counter(range(place + 1 if held else PLACES))
+        if place is not None:
+            stores = Counter(place + PLACES * part for part in range(int(held), 3))
+    keys = touched.loaded(TALLIES, PLACES)
+    written = touched.stored(TALLIES, 3 * PLACES)
+    expect(keys == loads, 'it loads other keys: %s', differences(keys, loads))
+    expect(set(written) == set(stores), 'it writes other words of the tally record: %s',
+           differences(written, stores))
+    see_packet(call, touched, result, (TALLIES, 12 * PLACES))
+
+
+# ---- the other calls
+
+def see_scan(call, touched, result):
+    touched.only((RECORDS, 4 * RECORD * call.count))
+    expect(not touched.stores, 'it writes its list')
+    loaded = touched.loaded(RECORDS, RECORD * call.count)
+    expect({i // RECORD for i in loaded} == set(range(call.count)), 'it leaves records out')
+    expect(sum(loaded.values()) <= RECORD * call.count, 'it loads more words than its list has')
+
+
+def see_edit(call, touched, result):
+    ends = [(ENDS, 40)] if call.op == INSERT else []
+    touched.only((STORE, 4 * size_of(call)), *ends)
+    expect(not touched.stored(ENDS, 10), 'it writes the ends that it was lent')
+    stored = touched.stored(STORE, call.len)
+    expect(bool(stored) == (result[0] == 0), 'with the answer %d it writes %d words of the store',
+           result[0], len(stored))
+
+
+def see_reader(call, touched, result):
+    touched.only((STORE, 4 * size_of(call)))
+    expect(not touched.stores, 'it writes words of the store')
+
+
+def see(call, touched, result):
+    """Raises a Fault where a call does not touch what it should, or more."""
+    if call.op == LOOKUP:
+        see_lookup(call, touched, call.numbers, result)
+    elif call.op == CLEAR:
+        touched.only((TALLIES, 12 * PLACES))
+    elif call.op in (PREFIX, DIFFERENCE):
+        touched.only()
+    else:
+        {LOOKUP_PACKET: see_packet, LOOKUP_TALLY: see_tally, SCAN: see_scan, CHECK: see_reader,
+         READ: see_reader, CELLS: see_reader}.get(call.op, see_edit)(call, touched, result)

@@ -1,0 +1,345 @@
+#!/usr/bin/env python3
+"""Tries must-fail edits: small wrong changes that the prover has to refuse.
+
+    tests/must_fail.py [--crate NAME ..] [--only CRATE/LABEL ..] [--all] [--apart] [--jobs N] [--why] [--cut N]
+    tests/must_fail.py --list | --listed | --move CRATE ..
+
+An edit is a file LABEL.edit. Those in crates/CRATE/must-fail are tried by `rt ci`,
+each by a check of its whole crate, and those in tests/must-fail/CRATE here: in a
+copy of the crate, over what `rt check` has proved of it (prover.py), so that only
+what the edit touches is proved again. Run `rt check` first. --all tries both, --jobs
+says how many provers at once, --why prints the error of each refusal too.
+
+Edits of the bodies of several functions, none of which calls another of them, are made
+in one copy: a function is proved from the contracts of those that it calls, so an error
+in its own proof comes from its own edit alone. An edit that is not refused there by such
+an error is tried in a copy of its own; --apart tries all of them so.
+
+The form is that of `rt must-fail`, one line for each part:
+    # what must hold and the edit breaks, or what the edit does wrong
+    # shape: why a refusal by the proof's shape is all that can be had   (optional)
+    file: src/lib.rt          a file below src/ or specs/, for the pairs that follow
+    old: text                 it stands in that file exactly once
+    new: text                 what stands there instead
+Each 'old:' goes by the file as the pairs before it left it. Any other line that is
+not empty makes the edit a bad one.
+
+Outcomes, of which the first two have passed and all others failed:
+  refused       the first error is that something does not hold
+  shape, meant  the first error is that the proof no longer fits the code, and the
+                edit says why that is meant
+  shape         the same, and the edit does not say so: it shows little
+  NOT REFUSED   the crate with this edit is proved, by a check of the whole of it
+  not compiled  the edit did not reach the prover
+  no verdict    out of time, or the prover could not tell
+  bad edit      it is not of the form above, or the crate itself is not proved
+Those that failed are named again at the end, and the last line counts edits.
+
+--list writes all edits as a page, docs/EDITS.md (`make edits-list`), and --listed
+sees that the page there is this one. --move moves the edits of crates from
+crates/CRATE/must-fail to tests/must-fail/CRATE, but for those that
+tests/must-fail/kept.txt names, a line CRATE/LABEL for each; it writes the page anew.
+"""
+
+import argparse
+import re
+import subprocess
+import sys
+from collections import Counter
+
+from mutate import Source
+from prover import JOBS, ROOT, SHAPE, Kit, NotProved, crates, over_baselines
+
+HERE = ROOT / 'tests/must-fail'
+PAGE = ROOT / 'docs/EDITS.md'
+LIMIT = 600  # seconds for one edit
+PASSED = ('refused', 'shape, meant')
+
+
+class Bad(Exception):
+    """An edit that is not of the form."""
+
+
+class Edit:
+    """An edit file: its comment, and its changes as (file, old, new)."""
+
+    def __init__(self, crate, path):
+        self.crate, self.path, self.label = crate, path, path.stem
+        self.name = '%s/%s' % (crate, path.stem)
+        self.comment, self.shape, self.changes, self.fault = '', '', [], ''
+        file = old = ''
+        for line in path.read_text().splitlines():
+            if line.startswith('# shape: '):
+                self.shape = line[9:]
+            elif line.startswith('#'):
+                self.comment = self.comment or line[1:].strip()
+            elif line.startswith('file: '):
+                file = line[6:]
+            elif line.startswith('old: '):
+                old = line[5:]
+            elif line.startswith('new:'):
+                self.changes.append((file, old, line[4:].removeprefix(' ')))
+                old = ''
+            elif line.strip():
+                self.fault = 'a line of it is no part of an edit: %s' % line.strip()
+        if not self.comment:
+            self.fault = 'it has no comment line'
+        if not self.changes:
+            self.fault = "it has no 'old:' and 'new:' pair"
+
+    def here(self):
+        return HERE in self.path.parents
+
+    def texts(self, others=None):
+        """The crate's changed files, {name: text}; others are those that are changed
+        already."""
+        if self.fault:
+            raise Bad(self.fault)
+        texts = dict(others or {})
+        for file, old, new in self.changes:
+            path = ROOT / 'crates' / self.crate / file
+            if not file.startswith(('src/', 'specs/')) or '..' in file or not path.is_file():
+                raise Bad("'file: %s' names no file of the crate below src/ or specs/" % file)
+            text = texts.get(file) or path.read_text()
+            if not old or text.count(old) != 1:
+                raise Bad('this text stands in %s %d times, not once: %s'
+                          % (file, text.count(old) if old else 0, old))
+            texts[file] = text.replace(old, new)
+        return texts
+
+
+def edits_of(crate):
+    folders = (ROOT / 'crates' / crate / 'must-fail', HERE / crate)
+    found = [Edit(crate, path) for folder in folders for path in folder.glob('*.edit')]
+    return sorted(found, key=lambda edit: edit.label)
+
+
+def kept():
+    """The names of the edits that stay in crates/."""
+    path = HERE / 'kept.txt'
+    lines = path.read_text().splitlines() if path.exists() else []
+    return [line.strip() for line in lines if line.strip() and not line.startswith('#')]
+
+
+# ---- trying them
+
+class Functions:
+    """The functions of a crate: where their bodies are, and which ones they call."""
+
+    def __init__(self, crate, file):
+        self.file, source = file, Source((ROOT / 'crates' / crate / file).read_text())
+        self.text, words = source.text, source.words
+        names = {f.name for f in source.functions}
+        self.bodies = {f.name: (source.tokens[f.first].start, source.tokens[f.last].end)
+                       for f in source.functions}
+        self.reached = {f.name: names.intersection(words[f.first:f.last]) for f in source.functions}
+        for _ in names:  # the calls of the calls
+            for found in self.reached.values():
+                found.update(*[self.reached[name] for name in found])
+
+    def changed(self, edit):
+        """The one function whose body has every change of the edit, or nothing."""
+        found = set()
+        for file, old, _ in edit.changes:
+            at = self.text.find(old) if file == self.file else -1
+            found.update([name for name, (first, last) in self.bodies.items()
+                          if first <= at and at + len(old) <= last] or [None])
+        return found.pop() if len(found) == 1 else None
+
+    def apart(self, name, others):
+        return not any(name == other or name in self.reached[other] or other in self.reached[name]
+                       for other in others)
+
+    def groups(self, edits):
+        """The edits, in groups that can be made in one copy, each {function: edit}."""
+        made, alone = [], []
+        for edit in edits:
+            name = None if edit.fault else self.changed(edit)
+            free = [group for group in made if name and self.apart(name, group)]
+            if free:
+                free[0][name] = edit
+            else:
+                (made if name else alone).append({name: edit})
+        return made + alone
+
+
+def own_error(crate, out, text, name):
+    """The first error in the proof of this function itself, or nothing."""
+    if not re.search(r'(?m)^fn %s::%s:? (not proved|no proof)' % (crate, name), out):
+        return None
+    for line in out.splitlines():
+        proof = re.match(r'proofs/([^/]+)/.*\berror\b', line)
+        if proof and name in proof[1].split('+') and 'was not admitted' not in line:
+            return line
+        note = re.match(r'note: src/\w+\.rt:(\d+):\d+: it is not proved that', line)
+        if note and name == function_at(text, int(note[1])):
+            return line
+    return None
+
+
+def function_at(text, line):
+    """The function that begins at this line: its attributes stand before its head."""
+    head = re.search(r'\bfn (\w+)', '\n'.join(text.split('\n')[line - 1:]))
+    return head and head[1]
+
+
+def together(crate, base, group, functions):
+    """The edits of the group that are refused in one copy, each with the line that shows it
+    and its part of the prover's seconds."""
+    texts = {}
+    try:
+        for edit in group.values():
+            texts = edit.texts(texts)
+    except Bad:
+        return {}
+    status, out, took = base.check(texts, LIMIT)
+    found = {}
+    for name, edit in group.items() if status == 1 else ():
+        first = own_error(crate, out, texts[functions.file], name)
+        if first and not SHAPE.search(first):
+            found[edit] = ('refused', first, took / len(group))
+    return found
+
+
+def one(base, edit):
+    """The outcome, the line that shows it, and the prover's seconds."""
+    try:
+        what, first, took = base.judge(edit.texts(), LIMIT)
+    except Bad as problem:
+        return 'bad edit', str(problem), 0
+    if what == 'shape' and edit.shape:
+        what = 'shape, meant'
+    what = {'fact': 'refused', 'survived': 'NOT REFUSED'}.get(what, what)
+    return what, first, took
+
+
+def plan(options):
+    known = {crate: edits_of(crate) for crate in crates()}
+    names = {edit.name for edits in known.values() for edit in edits}
+    for name in set(options.only) - names | set(options.crate) - set(known):
+        sys.exit('no such edit or crate: %s' % name)
+    chosen = {}
+    for crate in options.crate or known:
+        edits = [edit for edit in known[crate] if edit.name in options.only or
+                 not options.only and (options.all or edit.here())]
+        if edits:
+            chosen[crate] = edits
+    return chosen
+
+
+def try_all(options):
+    chosen, kit, counts, seconds, wrong = plan(options), Kit(), Counter(), Counter(), []
+    functions = {crate: Functions(crate, kit.files[crate]) for crate in chosen}
+
+    def each(crate, baseline, group):
+        """What is found of each edit of the group."""
+        try:
+            base = baseline()
+        except NotProved as problem:
+            return {edit: ('bad edit', str(problem), 0) for edit in group.values()}
+        found = together(crate, base, group, functions[crate]) if len(group) > 1 else {}
+        return {edit: found.get(edit) or one(base, edit) for edit in group.values()}
+
+    groups = {crate: [{edit.name: edit} for edit in edits] if options.apart else
+              functions[crate].groups(edits) for crate, edits in chosen.items()}
+    for crate, _, found in over_baselines(kit, groups, each, options.jobs):
+        for edit, (what, first, took) in found.items():
+            counts[what] += 1
+            seconds[crate] += took
+            first = '' if what == 'refused' and not options.why else first[:options.cut]
+            print('%-12s %s (%.1f s) %s' % (what, edit.name, took, first), flush=True)
+            if what not in PASSED:
+                wrong.append('FAILED %s: %s %s' % (edit.name, what, first))
+    for crate, edits in chosen.items():
+        print('%-12s %3d edits, %6.1f s' % (crate, len(edits), seconds[crate]))
+    for line in wrong:
+        print(line)
+    passed = sum(counts[what] for what in PASSED)
+    failed = sum(counts.values()) - passed
+    print('%d passed, %d failed' % (passed, failed))
+    return 1 if failed else 0
+
+
+# ---- the page of all edits
+
+def page():
+    lines = ['# The must-fail edits', '',
+             'Each is a small wrong change to the code or to a definition, made in a copy, that the '
+             'prover must refuse. Its line says what must hold and the edit breaks, or what the '
+             'edit does wrong. Those that are marked ∗ are tried by `rt ci`, by a check of the '
+             'whole crate; all others by `tests/must_fail.py`, over what is proved already.', '',
+             'This page is written by `make edits-list`, from the first line of each edit.']
+    total = 0
+    for crate in crates():
+        edits = edits_of(crate)
+        total += len(edits)
+        if edits:
+            lines += ['', '## %s' % crate, '', '| edit | |', '|---|---|']
+        lines += ['| `%s`%s | %s |' % (edit.label, '' if edit.here() else ' ∗',
+                                      edit.comment.replace('|', '\\|')) for edit in edits]
+    return '\n'.join(lines + ['', '%d edits.' % total, ''])
+
+
+def problems():
+    """What is wrong with the files, before any edit is tried."""
+    names = Counter(edit.name for crate in crates() for edit in edits_of(crate))
+    for name, times in names.items():
+        if times > 1:
+            yield '%s stands in crates/ and in tests/must-fail' % name
+    for folder in HERE.iterdir() if HERE.is_dir() else ():
+        if folder.is_dir() and folder.name not in crates():
+            yield 'tests/must-fail/%s is of no crate' % folder.name
+    for name in kept():
+        crate, _, label = name.partition('/')
+        if not (ROOT / 'crates' / crate / 'must-fail' / (label + '.edit')).exists():
+            yield 'tests/must-fail/kept.txt names %s, which is not in crates/' % name
+    if not PAGE.exists() or PAGE.read_text() != page():
+        yield 'docs/EDITS.md is not the list of the edits: make edits-list writes it'
+
+
+def listed():
+    found = list(problems())
+    print('\n'.join(found + ['%d passed, %d failed' % (not found, len(found))]))
+    return 1 if found else 0
+
+
+def move(names):
+    for crate in names:
+        if crate not in crates():
+            sys.exit('no crate %s in crates.txt' % crate)
+        edits = [edit for edit in edits_of(crate) if not edit.here() and edit.name not in kept()]
+        (HERE / crate).mkdir(parents=True, exist_ok=True)
+        for edit in edits:
+            subprocess.run(['git', 'mv', edit.path, HERE / crate], cwd=ROOT, check=True)
+        left = [edit.label for edit in edits_of(crate) if not edit.here()]
+        print('%s: %d moved, %d left: %s' % (crate, len(edits), len(left), ' '.join(left)))
+    PAGE.write_text(page())
+    return 0
+
+
+def main():
+    parser = argparse.ArgumentParser(description=__doc__,
+                                     formatter_class=argparse.RawDescriptionHelpFormatter)
+    parser.add_argument('--crate', nargs='+', default=[])
+    parser.add_argument('--only', nargs='+', default=[])
+    parser.add_argument('--jobs', type=int, default=JOBS)
+    parser.add_argument('--all', action='store_true')
+    parser.add_argument('--apart', action='store_true')
+    parser.add_argument('--why', action='store_true', help='print the error of each refusal too')
+    parser.add_argument('--cut', type=int, default=160)
+    parser.add_argument('--list', action='store_true')
+    parser.add_argument('--listed', action='store_true')
+    parser.add_argument('--move', nargs='+', metavar='CRATE')
+    options = parser.parse_args()
+    if options.list:
+        print(page(), end='')
+        return 0
+    if options.listed:
+        return listed()
+    if options.move:
+        return move(options.move)
+    return try_all(options)
+
+
+if __name__ == '__main__':
+    sys.exit(main())

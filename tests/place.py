@@ -1,0 +1,82 @@
+#!/usr/bin/env python3
+"""Holds what finding a new rule's place costs, in instructions, to docs/TIMING.md.
+
+    tests/place.py [--archive FILE]
+
+A rule whose number is above all that stand finds its place at the first look, however
+many stand. The search alone is counted as a difference of two calls over the same
+words: a read that is refused with 4, just after the search, less one that is refused
+with 1, just before it; and in a table of 64 rules an insert that is refused with 5 less
+one refused with 2. A search that looks at each rule would take some instructions more
+for each.
+
+Where valgrind cannot run the archive, as on Arm, nothing is counted.
+"""
+
+import argparse
+import sys
+import tempfile
+
+from calls import ARCHIVE, Program, Script, cannot
+from loads import CELL, FRONT, READ, START
+from reference import Rule
+
+CELLS = 60
+RULES = (1, 2, 8, 16, 32, 63)
+MOST_FOR_A_RULE = 0.5  # instructions
+LOW, HIGH = (1, 0, 17, 5000, 0), (9, 4294967295, 17, 5009, 65535)
+
+
+def table(rules):
+    """A script that makes a store of so many rules, 100, 200, .., all of one range."""
+    script = Script()
+    script.fill([0] * (FRONT + CELL * CELLS))
+    script.call(START, CELLS)
+    for i in range(rules):
+        script.insert(Rule(100 * i + 100, 1, LOW, HIGH))
+    return script
+
+
+def reading(program, rules, number, answer):
+    script = table(rules)
+    script.call(READ, number)
+    count, given = program.count(script, 'reamstork_read')
+    if given[-13] != answer:
+        sys.exit('a read of %d among %d rules gives %d, not %d' % (number, rules, given[-13], answer))
+    return count
+
+
+def inserting(program, high, answer):
+    script = table(64)
+    script.insert(Rule(65000, 1, LOW, high))
+    count, given = program.count(script, 'reamstork_insert')
+    if given[-1] != answer:
+        sys.exit('an insert into a full table gives %d, not %d' % (given[-1], answer))
+    return count
+
+
+def main():
+    parser = argparse.ArgumentParser(description=__doc__,
+                                     formatter_class=argparse.RawDescriptionHelpFormatter)
+    parser.add_argument('--archive', default=ARCHIVE)
+    options = parser.parse_args()
+    why, failure = cannot()
+    if why:
+        print('%s\n0 passed, %d failed' % (why, failure))
+        return int(failure)
+    with tempfile.TemporaryDirectory(prefix='place-') as folder:
+        program = Program(options.archive, folder)
+        found = {n: reading(program, n, 65000, 4) - reading(program, n, 65536, 1) for n in RULES}
+        found[64] = inserting(program, HIGH, 5) - inserting(program, HIGH[:4] + (65536,), 2)
+    passed = 0
+    for rules, count in found.items():
+        good = count <= found[1] + MOST_FOR_A_RULE * rules
+        passed += good
+        print('%s: finding the place above %d rules takes %d instructions, above one %d'
+              % ('ok' if good else 'FAILED', rules, count, found[1]))
+    print('%d passed, %d failed' % (passed, len(found) - passed))
+    return 0 if passed == len(found) else 1
+
+
+if __name__ == '__main__':
+    sys.exit(main())

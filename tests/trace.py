@@ -1,0 +1,270 @@
+#!/usr/bin/env python3
+"""Holds every load and store of the compiled archive against docs/TIMING.md.
+
+    tests/trace.py [--archive FILE] [--tables N] [--seed N] [--stop N]
+
+The proofs speak of what a call answers and leaves, not of what it reads. Here
+valgrind's lackey writes a line for each load and each store while trace.c, linked
+with the archive, makes calls over random tables, damaged words, packets, tally
+records and lists. Of each call is seen (loads.py):
+
+- A lookup by values, by packet or with tallies loads four words of the front, the
+  number and action of the rule that decides, and two words of each cell that it
+  counts: its end, and its next or down. These are 6 + 2 x reads words, counted as
+  often as they are loaded; a load of 8 bytes is one of two words. It writes none.
+- Over damaged words it loads the cells of the walk, which stops after c cells of one
+  field, and of the front no other words than these.
+- A lookup that is refused with 7 or 11 touches no word of the store.
+- Of a packet it loads the bytes that TIMING names. Of a tally record it loads the keys
+  once, up to the one that is held, and writes the one place that counts.
+- A scan loads words of every record of its list, no more than the list has, and touches
+  nothing else that could be lent.
+- Check, read and cells write nothing; nor does a start or an edit that is refused.
+- No call touches a word behind its store or in front of it, nor any memory but what
+  it was lent, its stack, and for loads the program's constants.
+
+Where valgrind cannot run the archive, as on Arm, nothing is traced. The last line
+counts calls.
+"""
+
+import argparse
+import random
+import sys
+import tempfile
+import time
+from collections import Counter
+
+from calls import ARCHIVE, Program, Script, cannot
+from loads import (BEGIN, CELL, CELLS, CHECK, CLEAR, DELETE, DIFFERENCE, FRONT, INSERT, LOOKUP,
+                   LOOKUP_PACKET, LOOKUP_TALLY, PLACES, PREFIX, READ, SCAN, START, START_WITH,
+                   Fault, Touched, see)
+from reference import Rule, default_rule
+from tables import World, packet_of, random_packet, values_above, values_near
+
+# each call's name, and the answers that a run has to see
+CALLS = {
+    START: ('start', {0, 8}), START_WITH: ('start_with', {0, 8}),
+    INSERT: ('insert', {0, 1, 2, 3, 5, 6, 9}), DELETE: ('delete', {0, 1, 4, 9}),
+    CHECK: ('check', {0, 9}), READ: ('read', {0, 1, 4, 9}), CELLS: ('cells', {0, 9}),
+    LOOKUP: ('lookup', {0, 9, 11}), LOOKUP_PACKET: ('lookup_packet', {0, 7, 9}),
+    LOOKUP_TALLY: ('lookup_packet_tally', {0, 7, 9, 13}), SCAN: ('scan', {0, 11}),
+    PREFIX: ('prefix', {0, 10}), CLEAR: ('tallies_clear', set()),
+    DIFFERENCE: ('tally_difference', set())}
+BEHIND = 0xA5A5A5A5
+FULL = (0,) * 5, (4294967295, 4294967295, 255, 65535, 65535)
+
+
+# ---- stores
+
+def tables(program, rng, count):
+    """Random tables, one that is full, and one that has no room: c, the rules with the
+    default, the words."""
+    script = Script()
+    made = [(60, [Rule(n, n, *FULL) for n in range(64)]), (5, [])]
+    for i in range(count):
+        c = 1920 if i % 6 == 5 else rng.choice((5, 20, 40, 60, 120, 300))
+        world = World(rng)
+        numbers = rng.sample(range(65535), rng.randint(0, 40 if c == 1920 else 10))
+        made.append((c, [world.rule(number) for number in numbers]))
+    for c, rules in made:
+        script.fill([0] * (FRONT + CELL * c))
+        script.call(START_WITH, c, 7)
+        for rule in rules:
+            script.insert(rule)
+        script.get(FRONT + CELL * c)
+    given, at = program.run(script), 0
+    for c, rules in made:
+        held = [rule for rule, answer in zip(rules, given[at + 1:]) if answer == 0]
+        at += 1 + len(rules)
+        yield c, held + [default_rule(7)], list(given[at:at + FRONT + CELL * c])
+        at += FRONT + CELL * c
+
+
+def damaged(rng, c, words):
+    """The words with some changed, most of them links."""
+    words = list(words)
+    for _ in range(rng.choice((1, 2, 5, 20))):
+        place = FRONT + CELL * rng.randrange(c) + rng.randrange(3)
+        words[rng.choice((place, place, place, BEGIN, 1))] = rng.choice((
+            0, 1, c - 1, c, rng.randrange(c), rng.randrange(c), rng.choice(words),
+            rng.getrandbits(32)))
+    return words
+
+
+def maze(rng, c, words, end):
+    """The front of these words, and a ring of all c cells in an order that is drawn. All
+    their ends are 0 but that of the last, and all lead down to the first one. So a
+    field's value of 0 reads one cell, one up to `end` reads c cells, and one above it
+    goes round."""
+    words = words[:FRONT] + [0] * (CELL * c)
+    ring = rng.sample(range(c), c)
+    for cell, following in zip(ring, ring[1:] + ring[:1]):
+        words[FRONT + CELL * cell:FRONT + CELL * cell + 3] = 0, following, ring[0]
+    words[BEGIN], words[FRONT + CELL * ring[-1]] = ring[0], end
+    return words
+
+
+# ---- the calls that are made
+
+def some_record(rng, rules):
+    """A tally record: held and unused places, and now and then no unused one."""
+    keys = [rng.choice((4294967295, 65536, rng.randrange(65536), rng.choice(rules).number))
+            for _ in range(PLACES)]
+    if rng.random() < 0.3:
+        keys = [rng.randrange(65536) for _ in keys]
+    return (*keys, *(rng.getrandbits(32) for _ in range(2 * PLACES)))
+
+
+def lookups(script, rng, rules, count):
+    for _ in range(count):
+        values = values_near(rng, rules)
+        script.call(LOOKUP, *values)
+        script.packet(packet_of(values))
+        script.packet(random_packet(rng, rules))
+        script.packet(random_packet(rng, rules), some_record(rng, rules))
+    script.call(LOOKUP, *values_above(rng, values))
+
+
+def readers(script, rng, rules):
+    script.call(CHECK)
+    script.call(CELLS)
+    for number in (rng.choice(rules).number, rng.randrange(65535), 65536):
+        script.call(READ, number)
+
+
+def refused_edits(script, rng, rules):
+    """Edits that are refused over any words."""
+    rule = rules[0]
+    script.insert(Rule(65535, 1, *FULL))
+    script.insert(Rule(rule.number, 1, *FULL))
+    script.insert(Rule(7, 1, (1, 0, 0, 0, 0), (0, *FULL[1][1:])))
+    script.call(DELETE, 65535)
+    if all(rule.number != 8 for rule in rules):
+        script.call(DELETE, 8)
+    for c in (4, 65537, 1 << 31, (script.len - FRONT) // CELL + 1 if script.len >= FRONT else 5):
+        script.call(START, c)
+        script.call(START_WITH, c, 3)
+
+
+def taken_edits(script, rng, c, rules, words):
+    """Edits that are mostly taken, each over the same words."""
+    world = World(rng)
+    taken = {rule.number for rule in rules}
+    for number in rng.sample(sorted(set(range(200)) - taken), 3):
+        script.fill(words)
+        script.insert(world.rule(number))
+    script.fill(words)
+    script.call(DELETE, rng.choice(rules).number)
+    for op, more in ((START, ()), (START_WITH, (5,))):
+        script.fill([rng.getrandbits(32) for _ in words])
+        script.call(op, rng.randint(5, c), *more)
+
+
+def over_table(script, rng, c, rules, words):
+    words = words + [BEHIND] * rng.choice((0, 1, 8, 40))
+    script.fill(words)
+    lookups(script, rng, rules, 6)
+    for _ in range(3):
+        script.scan(rng.sample(rules, rng.randint(0, len(rules))), values_near(rng, rules))
+    script.scan(rules, values_above(rng, values_near(rng, rules)))
+    if c > 300:
+        return
+    readers(script, rng, rules)
+    refused_edits(script, rng, rules)
+    taken_edits(script, rng, c, rules, words)
+
+
+def over_damage(script, rng, c, rules, words):
+    """Words that are no store: damaged, or too few."""
+    script.fill(damaged(rng, c, words) + [BEHIND] * rng.choice((0, 3)))
+    lookups(script, rng, rules, 4)
+    if c > 300:
+        return
+    bad = list(words)
+    bad[BEGIN] ^= 1
+    for length in (len(words), rng.choice((len(words) - 1, FRONT, 1, 0))):
+        script.fill(bad, length)
+        readers(script, rng, rules)
+        refused_edits(script, rng, rules)
+        lookups(script, rng, rules, 1)
+
+
+def over_maze(script, rng, c, rules, words):
+    """In each field one cell, all c, or a ring of them."""
+    script.fill(maze(rng, c, words, 17) + [BEHIND] * 8)
+    for values in ((1,) * 5, (0, 1, 0, 1, 1), (1, 1, 18, 1, 1), (18,) * 5, (1, 1, 1, 1, 18)):
+        script.call(LOOKUP, *values)
+    script.packet(packet_of((1, 1, 17, 1, 1)))
+    script.packet(packet_of((1, 1, 17, 1, 18)))
+
+
+def all_calls(program, rng, count):
+    script = Script()
+    made = list(tables(program, rng, count))
+    for table in made:
+        over_table(script, rng, *table)
+        over_damage(script, rng, *table)
+    for table in made[:2]:
+        over_maze(script, rng, *table)
+    for numbers in ((0x0a000000, 24), (0x0a000001, 24), (0, 33)):
+        script.call(PREFIX, *numbers)
+    script.call(CLEAR)
+    script.call(DIFFERENCE, 5, 3)
+    return script
+
+
+# ---- the run
+
+def spell(call):
+    numbers = call.packet.hex() if call.packet else ', '.join(map(str, call.numbers))
+    return '%s(%s) over %d words, c = %s' % (CALLS[call.op][0], numbers[:160], call.len,
+                                             call.words[0] if call.words else 'none')
+
+
+def hold(program, script, stop):
+    """Holds the trace of a script to the rules; counts calls."""
+    seen, passed, failed = {op: Counter() for op in CALLS}, 0, 0
+    for call, numbers, result in program.trace(script):
+        seen[call.op][result[0] if len(result) else 0] += 1
+        try:
+            see(call, Touched(numbers, program.frame, program.image), result)
+            passed += 1
+        except Fault as fault:
+            failed += 1
+            if failed <= stop:
+                print('FAILED: %s gave %s: %s' % (spell(call), list(result[:4]), fault))
+    for op, (name, want) in CALLS.items():
+        answers = ', '.join('%d: %d' % pair for pair in sorted(seen[op].items()))
+        print('%-20s %6d calls, by answer %s' % (name, sum(seen[op].values()), answers))
+        if want - set(seen[op]):
+            failed += 1
+            print('FAILED: no %s was answered %s' % (name, sorted(want - set(seen[op]))))
+    return passed, failed
+
+
+def main():
+    parser = argparse.ArgumentParser(description=__doc__,
+                                     formatter_class=argparse.RawDescriptionHelpFormatter)
+    parser.add_argument('--archive', default=ARCHIVE)
+    parser.add_argument('--tables', type=int, default=30)
+    parser.add_argument('--seed', type=int, default=None)
+    parser.add_argument('--stop', type=int, default=12, help='tell of that many failures')
+    options = parser.parse_args()
+    why, failure = cannot()
+    if why:
+        print('%s\n0 passed, %d failed' % (why, failure))
+        return int(failure)
+    seed = random.SystemRandom().randrange(10 ** 9) if options.seed is None else options.seed
+    print('seed %d' % seed, flush=True)
+    began = time.monotonic()
+    with tempfile.TemporaryDirectory(prefix='trace-') as folder:
+        program = Program(options.archive, folder)
+        script = all_calls(program, random.Random(seed), options.tables)
+        passed, failed = hold(program, script, options.stop)
+    print('%.0f s' % (time.monotonic() - began))
+    print('%d passed, %d failed' % (passed, failed))
+    return 1 if failed or not passed else 0
+
+
+if __name__ == '__main__':
+    sys.exit(main())
