@@ -1,61 +1,110 @@
-# make run: the bench program on a capture. make test: every proof and every test. README says more.
+# make run: the bench program on a capture. make lib, make install: the library. make test: every proof and every test. README says more.
 CAPTURE ?= crates/bench/stdin
+MACHINE ?= x86_64
 PREFIX ?= /usr/local
+LIBDIR ?= $(PREFIX)/lib
+INCLUDEDIR ?= $(PREFIX)/include
+DOCDIR ?= $(PREFIX)/share/doc/reamstork
 SECONDS_LONG ?= 3600
-ARCHIVE = target/staticlib/libreamstork.a
 
-.PHONY: help run test lib install example soak bench-speed bench-stack bench-place mutants must-fail edits-list clean kit tools
+# The archive that the compiler writes is for x86-64; that for Arm is made from the same module.
+X86 = target/staticlib/libreamstork.a
+ARM = target/aarch64/libreamstork.a
+ifeq ($(MACHINE),x86_64)
+ARCHIVE = $(X86)
+else ifeq ($(MACHINE),aarch64)
+ARCHIVE = $(ARM)
+else
+$(error MACHINE is '$(MACHINE)': there are archives for x86_64 and for aarch64)
+endif
+
+.PHONY: help run lib install uninstall example test soak bench-speed bench-stack bench-place bench-cells mutants must-fail edits-list clean kit tools capture
+# Two provers over one target/ would be in each other's way.
+.NOTPARALLEL:
+.DELETE_ON_ERROR:
+
+# Names from outside reach the scripts as they are, spaces and all.
+run capture: export CAPTURE := $(CAPTURE)
+install uninstall: export MACHINE := $(MACHINE)
+install uninstall: export ARCHIVE := $(ARCHIVE)
+install uninstall: export PREFIX := $(PREFIX)
+install uninstall: export LIBDIR := $(LIBDIR)
+install uninstall: export INCLUDEDIR := $(INCLUDEDIR)
+install uninstall: export DOCDIR := $(DOCDIR)
+install uninstall: export DESTDIR := $(DESTDIR)
 
 help:
 	@echo 'make run [CAPTURE=file.pcap]   prove, build and run the bench program on a capture'
-	@echo 'make test                      prove every crate, try every must-fail edit, run every test'
-	@echo 'make lib                       the library for C: $(ARCHIVE)'
-	@echo 'make install [PREFIX=/usr/local]'
+	@echo 'make lib [MACHINE=aarch64]     prove and build the library for C: $(ARCHIVE)'
+	@echo 'make install [PREFIX=/usr/local] [LIBDIR=..] [INCLUDEDIR=..] [DOCDIR=..] [DESTDIR=..] [MACHINE=aarch64]'
+	@echo '                               install what make lib built; make uninstall removes it'
 	@echo 'make example                   compile and run examples/gateway.c'
+	@echo 'make test                      prove every crate, try every must-fail edit, run every test'
 	@echo 'make soak [SECONDS_LONG=3600]  the independent second program for as long as you like'
 	@echo 'make bench-speed, bench-stack  figures of docs/TIMING.md'
 	@echo 'make bench-place               what finding a new rule'"'"'s place costs, in instructions'
+	@echo 'make bench-cells               how many cells tables of several shapes take'
 	@echo 'make mutants                   small wrong changes, and whether the prover refuses them'
 	@echo 'make must-fail                 every must-fail edit, over what is proved already'
 	@echo 'make edits-list                the list of must-fail edits, docs/EDITS.md'
 
 # The one thing that is not installed from here: Rattle's kit, which has the prover, the compiler and the C library.
 kit:
-	@command -v rt >/dev/null || { echo "Rattle's kit is missing: install it so that the command 'rt' is on the PATH" >&2; exit 2; }
+	@scripts/kit
 
 # A C compiler for x86-64 programs and Python, from Debian's packages where they are missing.
 tools:
 	@tests/tools
 
-run: kit
-	@rt check bench && tests/x86 target/bin/bench < $(CAPTURE)
+# What a crate is built from: its files and those of the crates that it stands on. The folders are among them, so that a file that goes is seen too.
+files = $(shell find $(wildcard $(addprefix crates/,$(1) $(shell sed -n 's/^$(1): *//p' crates.txt))) -name must-fail -prune -o -print)
+
+$(X86): crates.txt $(call files,reamstork)
+	@scripts/prove staticlib reamstork && touch $@
+
+$(ARM): $(X86) scripts/archive-for
+	@scripts/archive-for aarch64 $(X86) $@
+
+target/bin/bench: crates.txt $(call files,bench)
+	@scripts/prove check bench && touch $@
+
+lib: $(ARCHIVE)
+	@echo 'the library for $(MACHINE): $(ARCHIVE), its header: include/reamstork.h'
+
+capture:
+	@scripts/run --look "$$CAPTURE"
+
+run: capture target/bin/bench
+	@scripts/run "$$CAPTURE"
+
+# Neither needs the kit. An archive that is older than the sources may not fit the header beside it.
+install:
+	@[ ! -f $(ARCHIVE) ] || $(MAKE) --no-print-directory -q $(ARCHIVE) || { echo "the sources are newer than $(ARCHIVE): run 'make lib MACHINE=$(MACHINE)' first, then install" >&2; exit 2; }
+	@scripts/install install
+
+uninstall:
+	@scripts/install uninstall
+
+example: $(X86) tools
+	@tests/c_face example
 
 test: kit tools
 	@tests/all
 
-lib: kit
-	@rt staticlib reamstork && echo 'the library: $(ARCHIVE), its header: include/reamstork.h'
-
-install: lib
-	install -d $(DESTDIR)$(PREFIX)/include $(DESTDIR)$(PREFIX)/lib/pkgconfig
-	install -m 644 include/reamstork.h $(DESTDIR)$(PREFIX)/include/
-	install -m 644 $(ARCHIVE) $(DESTDIR)$(PREFIX)/lib/
-	printf 'prefix=%s\nName: reamstork\nDescription: packet decision with a proved answer and cost\nVersion: 1.0\nCflags: -I$${prefix}/include\nLibs: -L$${prefix}/lib -lreamstork\n' '$(PREFIX)' > $(DESTDIR)$(PREFIX)/lib/pkgconfig/reamstork.pc
-
-example: lib tools
-	@tests/c_face example
-
-soak: lib tools
+soak: $(X86) tools
 	@tests/c_face driver && tests/independent.py --driver tests/x86 target/tests/driver --seconds $(SECONDS_LONG)
 
-bench-speed: lib tools
-	@sh plain/speed.sh $(ARCHIVE)
+bench-speed: $(X86) tools
+	@sh plain/speed.sh $(X86)
 
-bench-stack: lib tools
-	@CC=tests/x86cc RUN=tests/x86 sh plain/stack.sh $(ARCHIVE)
+bench-stack: $(X86) tools
+	@CC=tests/x86cc RUN=tests/x86 sh plain/stack.sh $(X86)
 
-bench-place: lib tools
-	@sh plain/place.sh $(ARCHIVE)
+bench-place: $(X86) tools
+	@sh plain/place.sh $(X86)
+
+bench-cells: $(X86) tools
+	@tests/c_face cells
 
 mutants: kit
 	@tests/mutants.py

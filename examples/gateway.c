@@ -1,11 +1,17 @@
 /*
  * gateway.c - the firmware's loop, in small
  *
- * Loads a table of rules into a static store, decides frames and counts
- * them by action and by rule.  No heap and no input: it prints
- * gateway.expected.
+ * Loads a table of rules into a static store, lists what the store now
+ * holds, decides frames and counts them by action and by rule.  No heap
+ * and no input: it prints gateway.expected.
  *
- *     cc -std=c11 -Iinclude examples/gateway.c libreamstork.a -o gateway
+ * On an x86-64 machine, after `make lib`, in the top folder:
+ *
+ *     cc -std=c11 -Iinclude examples/gateway.c target/staticlib/libreamstork.a -o gateway
+ *
+ * On an Arm machine, after `make lib MACHINE=aarch64`:
+ *
+ *     cc -std=c11 -Iinclude examples/gateway.c target/aarch64/libreamstork.a -o gateway
  */
 #include <inttypes.h>
 #include <stdio.h>
@@ -55,12 +61,34 @@ static uint32_t load(size_t i)
 {
 	reamstork_range to = reamstork_prefix(table[i].to, table[i].to_length);
 	reamstork_range from = reamstork_prefix(table[i].from, table[i].from_length);
-	const uint32_t low[] = { to.low, from.low, table[i].protocol_low, table[i].port_low, 0 };
-	const uint32_t high[] = { to.high, from.high, table[i].protocol_high, table[i].port_high, REAMSTORK_TOP_PORT };
+	const uint32_t low[REAMSTORK_FIELDS] = {
+		[REAMSTORK_DESTINATION] = to.low,
+		[REAMSTORK_SOURCE] = from.low,
+		[REAMSTORK_PROTOCOL] = table[i].protocol_low,
+		[REAMSTORK_DESTINATION_PORT] = table[i].port_low,
+		[REAMSTORK_SOURCE_PORT] = 0,
+	};
+	const uint32_t high[REAMSTORK_FIELDS] = {
+		[REAMSTORK_DESTINATION] = to.high,
+		[REAMSTORK_SOURCE] = from.high,
+		[REAMSTORK_PROTOCOL] = table[i].protocol_high,
+		[REAMSTORK_DESTINATION_PORT] = table[i].port_high,
+		[REAMSTORK_SOURCE_PORT] = REAMSTORK_TOP_PORT,
+	};
 
 	if (to.answer != REAMSTORK_DONE || from.answer != REAMSTORK_DONE)
 		return REAMSTORK_BAD_PREFIX;
 	return reamstork_insert(store, store_len, table[i].number, table[i].action, low, high);
+}
+
+/* The rules of the store, by rising number.  Gives what ended the list. */
+static uint32_t list(void)
+{
+	reamstork_rule r;
+
+	for (uint32_t place = 1; (r = reamstork_rule_at(store, store_len, place)).answer == REAMSTORK_DONE; place++)
+		printf("place %" PRIu32 ": rule %" PRIu32 ", %s\n", place, r.number, r.action < ACTIONS ? action_names[r.action] : "unknown action");
+	return r.answer;
 }
 
 int main(void)
@@ -70,8 +98,13 @@ int main(void)
 	if (reamstork_start_with(store, store_len, 1920, FORWARD) != REAMSTORK_DONE)
 		return 1;
 	reamstork_tallies_clear(&tallies);
-	for (size_t i = 0; i < sizeof table / sizeof table[0]; i++)
-		printf("rule %" PRIu32 ": %" PRIu32 "\n", table[i].number, load(i));
+	for (size_t i = 0; i < sizeof table / sizeof table[0]; i++) {
+		uint32_t answer = load(i);
+
+		printf("rule %" PRIu32 ": %" PRIu32 ", %s\n", table[i].number, answer, reamstork_answer(answer));
+	}
+	if (list() != REAMSTORK_NO_SUCH_NUMBER)
+		return 1;	/* the store fails the check */
 	printf("cells in use: %" PRIu32 "\n", reamstork_cells(store, store_len).cells);
 
 	for (size_t i = 0; i < sizeof frames / sizeof frames[0]; i++) {

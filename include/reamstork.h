@@ -18,6 +18,10 @@
  *     reamstork_found f = reamstork_lookup_packet(store, len, frame, n);
  *     if (f.answer == REAMSTORK_DONE) switch (f.action) { ... }
  *
+ * Pages named here as docs/.. stand in the folder docs of the sources, and
+ * in share/doc/reamstork where the library is installed.  docs/GUIDE.md is
+ * the one to read next.
+ *
  *
  * WHAT EVERY CALL PROMISES
  *
@@ -28,6 +32,9 @@
  *  - What it cannot take it refuses by a number from the table below.
  *    0 means done.  A refusal gives 0 in every other number of its answer
  *    and changes no word.
+ *  - LOOK AT THE ANSWER FIRST.  The zeros of a refusal are real numbers
+ *    too: a table may have a rule 0, and an action 0 is often "drop".
+ *    Nothing but the answer tells a refusal from a decision.
  *  - The answer, and all words afterwards, are a function of the arguments
  *    and of what they point to.  The same call on the same words always
  *    gives the same answer and leaves the same words.
@@ -58,14 +65,19 @@
  * RULES
  *
  * A packet has five values, a rule a range for each, both ends belonging
- * to it, in this order:
+ * to it.  These are the fields, in this order, DESTINATION BEFORE SOURCE:
  *
- *     place   field                 top
- *       0     destination address   4,294,967,295
- *       1     source address        4,294,967,295
- *       2     protocol              255
- *       3     destination port      65,535
- *       4     source port           65,535
+ *     field                    in the arrays low and high   top
+ *     1  destination address   REAMSTORK_DESTINATION        4,294,967,295
+ *     2  source address        REAMSTORK_SOURCE             4,294,967,295
+ *     3  protocol              REAMSTORK_PROTOCOL           255
+ *     4  destination port      REAMSTORK_DESTINATION_PORT   65,535
+ *     5  source port           REAMSTORK_SOURCE_PORT        65,535
+ *
+ * Fields count from 1.  The arrays of C begin at 0, so the constants are 0
+ * to 4.  A rule is written by name, and then no field can be swapped:
+ *
+ *     uint32_t low[REAMSTORK_FIELDS] = { [REAMSTORK_PROTOCOL] = 17, ... };
  *
  * Numbers are in the machine's own order: 10.0.0.1 is 167,772,161.  A
  * range from 0 to the top is full: it holds every value.
@@ -82,26 +94,51 @@
  * CELLS AND READS
  *
  * The ends of a rule in a field are its high end and, if its low end is
- * above 0, the low end less 1.  The tree has in field 0 one location for
+ * above 0, the low end less 1.  The tree has in field 1 one location for
  * each distinct end of all rules, the default included, and below each
  * location the tree, over the next fields, of the rules that cover it.
  * One location takes one cell.  The default alone takes 5.
  *
  * A lookup in a store that passes the check reads, in each field, one cell
  * and one more for each distinct end below the packet's value, taken over
- * the rules whose ranges hold its earlier values: with n rules at most
- * 2 n + 1 in each field.  The count of reads is a function of the table
- * and the packet.
+ * the rules whose ranges hold its earlier values.  The count of reads is a
+ * function of the table and the packet.  With n rules besides the default
+ * it is at most 2 n + 1 in each field, and at most 6 n + 5 in all: both
+ * are proved.
  *
  * A lookup touches the cells that it counts and six words besides; this
- * is measured, not proved.  check, and with it insert, delete, read and
- * cells, goes over all cells of the store; insert and delete then build
- * the tree anew.
+ * is measured, not proved.  check goes over all cells of the store, and so
+ * do insert, delete, read, rule_at and cells, which run it first; insert
+ * and delete then build the tree anew.
  *
  * The words of a store are a function of c, the default's action and the
  * rules.  Two stores with the same of these have the same words, bit for
  * bit, whatever edits brought them there, and can be compared by memcmp
- * or a checksum.  docs/ has the layout.
+ * or a checksum.  docs/STORE.md has the layout, docs/TIMING.md what a
+ * lookup costs.
+ *
+ *
+ * COPIES, AND EDITS WHILE FRAMES FLOW
+ *
+ * A store may be copied and moved: it holds no address.  Its first
+ * REAMSTORK_WORDS(c) words, copied by memcpy to other words, are the same
+ * store, also in another program, and on another machine of the same byte
+ * order.
+ *
+ * An edit needs its words to itself.  So that frames need not wait, have
+ * two stores of the same size, and a pointer to the one that is in use:
+ *
+ *  1. Each thread that decides frames loads the pointer anew for each
+ *     frame, and uses what it loaded for that frame alone.
+ *  2. Whoever edits copies the store in use to the spare one and edits
+ *     there.  If an edit is refused, the pointer stays: nothing happened.
+ *  3. If all are done, it writes the spare one's address to the pointer,
+ *     in C11 by atomic_store; the threads load it by atomic_load.
+ *  4. A call that began before may still be reading the old store.  Do not
+ *     write that one until each such thread has ended the frame that it
+ *     was at.  Then it is the spare one.
+ *
+ * docs/GUIDE.md has this as a program.
  */
 #ifndef REAMSTORK_H
 #define REAMSTORK_H
@@ -114,6 +151,17 @@ extern "C" {
 #endif
 
 /*
+ * VERSION
+ *
+ * A higher minor number adds to this header, or changes the words of a
+ * store; a higher major number changes what stands here.  CHANGELOG.md
+ * says what.
+ */
+#define REAMSTORK_VERSION          "1.1"
+#define REAMSTORK_VERSION_MAJOR    1
+#define REAMSTORK_VERSION_MINOR    1
+
+/*
  * LIMITS
  */
 #define REAMSTORK_FIELDS           5            /* values of a packet       */
@@ -123,8 +171,15 @@ extern "C" {
 #define REAMSTORK_DEFAULT_ACTION   1            /* of reamstork_start        */
 #define REAMSTORK_CELLS_MIN        5            /* least c                   */
 #define REAMSTORK_CELLS_MAX        65536        /* greatest c                */
-#define REAMSTORK_PLACES           65           /* places of a tally record  */
-#define REAMSTORK_UNUSED           4294967295u  /* key of an unused place    */
+#define REAMSTORK_PLACES           65           /* slots of a tally record, not places of rules */
+#define REAMSTORK_UNUSED           4294967295u  /* key of an unused slot     */
+
+/* Where a field stands in the arrays low and high of a rule. */
+#define REAMSTORK_DESTINATION      0            /* field 1 */
+#define REAMSTORK_SOURCE           1            /* field 2 */
+#define REAMSTORK_PROTOCOL         2            /* field 3 */
+#define REAMSTORK_DESTINATION_PORT 3            /* field 4 */
+#define REAMSTORK_SOURCE_PORT      4            /* field 5 */
 
 /* The greatest value in each field. */
 #define REAMSTORK_TOP_ADDRESS      4294967295u
@@ -142,22 +197,23 @@ extern "C" {
  * ANSWERS
  *
  * Each is given exactly when its condition holds and none that stands
- * before it in the call's own order does.
+ * before it in the call's own order does.  The calls below say each
+ * condition in full.  reamstork_answer gives the text that stands here.
  */
-#define REAMSTORK_DONE             0
-#define REAMSTORK_BAD_NUMBER       1   /* rule number above 65,534 (see read) */
-#define REAMSTORK_BAD_RANGE        2   /* low end above high, high above top  */
-#define REAMSTORK_NUMBER_TAKEN     3   /* insert: number already there        */
-#define REAMSTORK_NO_SUCH_NUMBER   4   /* delete, read: number not there      */
-#define REAMSTORK_TABLE_FULL       5   /* insert: 64 rules stand already      */
-#define REAMSTORK_NO_ROOM          6   /* insert: new tree takes more than c  */
-#define REAMSTORK_UNREADABLE       7   /* packet not readable                 */
-#define REAMSTORK_BAD_SIZE         8   /* start: c outside, or too few words  */
-#define REAMSTORK_BAD_STORE        9   /* store fails the check               */
-#define REAMSTORK_BAD_PREFIX       10  /* length above 32, or address askew   */
-#define REAMSTORK_BAD_VALUE        11  /* lookup, scan: a value above its top */
-/* 12 is an answer of the bench program alone: capture not accepted. */
-#define REAMSTORK_NO_PLACE         13  /* tally: a new number finds no place  */
+#define REAMSTORK_DONE             0   /* done */
+#define REAMSTORK_BAD_NUMBER       1   /* rule number too high */
+#define REAMSTORK_BAD_RANGE        2   /* low end above high end, or high end above top */
+#define REAMSTORK_NUMBER_TAKEN     3   /* rule number already there */
+#define REAMSTORK_NO_SUCH_NUMBER   4   /* no such rule */
+#define REAMSTORK_TABLE_FULL       5   /* table full */
+#define REAMSTORK_NO_ROOM          6   /* too few cells for the new tree */
+#define REAMSTORK_UNREADABLE       7   /* packet not readable */
+#define REAMSTORK_BAD_SIZE         8   /* number of cells outside its limits, or too few words */
+#define REAMSTORK_BAD_STORE        9   /* store fails the check */
+#define REAMSTORK_BAD_PREFIX       10  /* prefix too long, or address not a multiple of its size */
+#define REAMSTORK_BAD_VALUE        11  /* value above its top */
+/* 12 is the bench program's alone:      capture not accepted */
+#define REAMSTORK_NO_PLACE         13  /* no slot left in the tally record */
 
 typedef struct { uint32_t answer, rule, action, reads; } reamstork_found;
 typedef struct { uint32_t answer, number, action, low[5], high[5]; } reamstork_rule;
@@ -166,6 +222,53 @@ typedef struct { uint32_t answer, low, high; } reamstork_range;
 typedef struct { uint32_t key[65], packets[65], bytes[65]; } reamstork_tallies;
 typedef struct { uint32_t number, action, low[5], high[5]; } reamstork_record;
 typedef struct { uint32_t answer, rule, action; } reamstork_winner;
+
+/*
+ * AN ANSWER AS A TEXT
+ *
+ * The text that stands beside the number above, for 0 to 13, and for any
+ * other number "unknown answer".  For people: compare numbers, not texts.
+ */
+static inline const char *reamstork_answer(uint32_t answer)
+{
+	switch (answer) {
+	case REAMSTORK_DONE: return "done";
+	case REAMSTORK_BAD_NUMBER: return "rule number too high";
+	case REAMSTORK_BAD_RANGE: return "low end above high end, or high end above top";
+	case REAMSTORK_NUMBER_TAKEN: return "rule number already there";
+	case REAMSTORK_NO_SUCH_NUMBER: return "no such rule";
+	case REAMSTORK_TABLE_FULL: return "table full";
+	case REAMSTORK_NO_ROOM: return "too few cells for the new tree";
+	case REAMSTORK_UNREADABLE: return "packet not readable";
+	case REAMSTORK_BAD_SIZE: return "number of cells outside its limits, or too few words";
+	case REAMSTORK_BAD_STORE: return "store fails the check";
+	case REAMSTORK_BAD_PREFIX: return "prefix too long, or address not a multiple of its size";
+	case REAMSTORK_BAD_VALUE: return "value above its top";
+	case 12: return "capture not accepted";
+	case REAMSTORK_NO_PLACE: return "no slot left in the tally record";
+	default: return "unknown answer";
+	}
+}
+
+/*
+ * A RULE THAT WAS READ, AS A RECORD FOR A SCAN
+ *
+ * The same number, action and ranges.  Look at rule.answer first: the zeros
+ * of a refusal make a record of a rule 0.
+ */
+static inline reamstork_record reamstork_record_of(reamstork_rule rule)
+{
+	reamstork_record record;
+	int i;
+
+	record.number = rule.number;
+	record.action = rule.action;
+	for (i = 0; i < REAMSTORK_FIELDS; i++) {
+		record.low[i] = rule.low[i];
+		record.high[i] = rule.high[i];
+	}
+	return record;
+}
 
 /*
  * START A STORE
@@ -228,11 +331,15 @@ uint32_t reamstork_delete(uint32_t *words, size_t len, uint32_t number);
  *      is at least REAMSTORK_WORDS(c), word 2 is 0, the kind of store that
  *      there is, and the first REAMSTORK_WORDS(c) words hold a table
  *      within the limits above, its tree, and every other cell on the
- *      free chain once, laid as docs/ has it and in no other way
+ *      free chain once, laid as docs/STORE.md has it and in no other way
  *   9  otherwise
  *
  * Every store that an accepted start, insert or delete leaves passes.
- * Changes no word.  insert, delete, read and cells run it first.
+ * Changes no word.  insert, delete, read, rule_at and cells run it first.
+ *
+ * The check cannot see a change that makes the words another store, such
+ * as another action, or another number that leaves the numbers rising.
+ * docs/GUIDE.md says what to do where words can be damaged.
  */
 uint32_t reamstork_check(const uint32_t *words, size_t len);
 
@@ -246,8 +353,47 @@ uint32_t reamstork_check(const uint32_t *words, size_t len);
  *      65,535 gives the default
  *
  * in this order.  Changes no word.
+ *
+ * What is read can be inserted into another store as it is:
+ *
+ *     reamstork_rule r = reamstork_read(words, len, 10);
+ *     if (r.answer == REAMSTORK_DONE)
+ *         reamstork_insert(other, other_len, r.number, r.action, r.low, r.high);
+ *
+ * and reamstork_record_of(r) is the same rule as a record for
+ * reamstork_scan.
  */
 reamstork_rule reamstork_read(const uint32_t *words, size_t len, uint32_t number);
+
+/*
+ * READ A RULE BY ITS PLACE
+ *
+ * The rules of a table have the places 1, 2, 3 and so on, by rising
+ * number: the rule with the least number has place 1.  The default has no
+ * place.
+ *
+ *   9  the store fails the check
+ *   4  place is 0, or greater than the number of rules besides the default
+ *   0  done: number, action and ranges of the rule at this place
+ *
+ * in this order.  Changes no word.  So a table is listed, with a list of
+ * REAMSTORK_RULES_MAX records:
+ *
+ *     reamstork_rule r;
+ *     uint32_t n = 0;
+ *
+ *     while ((r = reamstork_rule_at(words, len, n + 1)).answer == REAMSTORK_DONE)
+ *         list[n++] = reamstork_record_of(r);
+ *
+ * What ended the list is r.answer: 4 behind the last rule, 9 where the
+ * store fails the check.  The default is not in the list: reamstork_read
+ * gives it, under REAMSTORK_DEFAULT.
+ *
+ * An edit moves the rules behind the one that came or went to other
+ * places, so let nobody edit the store between two calls of one list.
+ * Each call runs the check.
+ */
+reamstork_rule reamstork_rule_at(const uint32_t *words, size_t len, uint32_t place);
 
 /*
  * COUNT THE CELLS IN USE
@@ -321,8 +467,8 @@ reamstork_found reamstork_lookup_packet(const uint32_t *words, size_t len, const
 /*
  * TALLIES FOR EACH RULE
  *
- * A tally record has 65 places, one for each rule of a full table and one
- * for the default.  Place i is unused where key[i] is above 65,535,
+ * A tally record has 65 slots, one for each rule of a full table and one
+ * for the default.  Slot i is unused where key[i] is above 65,535,
  * whatever it is.  Otherwise it is the tally of the rule with the number
  * key[i]: packets[i] and bytes[i] count the packets that the rule decided
  * and their total lengths.  Both are Counter32 (RFC 2578): after
@@ -333,9 +479,9 @@ reamstork_found reamstork_lookup_packet(const uint32_t *words, size_t len, const
  * number: a later rule with that number would go on counting there.  Read
  * and drop tallies between calls, not while one runs.
  *
- * reamstork_tallies_clear makes every place unused, with REAMSTORK_UNUSED
+ * reamstork_tallies_clear makes every slot unused, with REAMSTORK_UNUSED
  * for its key and 0 for both counts.  It never refuses.  Clear a record
- * before its first use: a record of zeros is not clear, each of its places
+ * before its first use: a record of zeros is not clear, each of its slots
  * is the tally of rule 0.
  */
 void reamstork_tallies_clear(reamstork_tallies *tallies);
@@ -345,12 +491,12 @@ void reamstork_tallies_clear(reamstork_tallies *tallies);
  *
  *   7  as in reamstork_lookup_packet
  *   9  as in reamstork_lookup
- *  13  no place holds the number of the rule that decides, and none is
+ *  13  no slot holds the number of the rule that decides, and none is
  *      unused
  *   0  done: the answer is that of reamstork_lookup_packet
  *
- * in this order.  Done: at the first place that holds the rule's number,
- * or where none does at the first unused place, whose key becomes the
+ * in this order.  Done: at the first slot that holds the rule's number,
+ * or where none does at the first unused slot, whose key becomes the
  * number and whose counts begin at 0, packets grows by 1 and bytes by the
  * packet's total length, which its header says.  Every other word of the
  * record is as before.  Refused: all of them are.  Changes neither words
@@ -393,7 +539,8 @@ uint32_t reamstork_tally_difference(uint32_t earlier, uint32_t later);
  *
  * For the rules of a store that passes the check, in any order, and with
  * the action of its default, answer, rule and action are those of
- * reamstork_lookup, for all values.
+ * reamstork_lookup, for all values.  reamstork_record_of makes a record of
+ * a rule that was read.
  */
 reamstork_winner reamstork_scan(const reamstork_record *records, size_t count, uint32_t default_action, uint32_t destination, uint32_t source, uint32_t protocol, uint32_t destination_port, uint32_t source_port);
 

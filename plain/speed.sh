@@ -6,8 +6,8 @@
 #                                    the measurement itself is good for
 #
 # Where ARCHIVE is for another processor than this machine's, or NATIVE is
-# set, what native.sh makes stands in its place: emulated, no figure would
-# mean a thing.  CC names the compiler (cc), which compiles plain C with -O3;
+# set, what scripts/archive-for makes of it stands in its place: emulated, no
+# figure would mean a thing.  CC names the compiler (cc), which compiles plain C with -O3;
 # LIBS what else the archive wants to be linked with.  Where valgrind is there
 # the instructions of a lookup are counted too.
 program=speed flags=-falign-functions=64
@@ -17,7 +17,7 @@ machine() {
 	readelf -h "$1" 2>/dev/null | sed -n 's/.*Machine: *//p' | sort -u
 }
 if [ "$1" != plain ] && { [ "${NATIVE:-}" ] || [ "$(machine "$1")" != "$(machine "$dir/plain.o")" ]; }; then
-	sh "$here/native.sh" "$archive" "$dir/native.a"
+	"$here/../scripts/archive-for" "$(uname -m)" "$archive" "$dir/native.a"
 	archive=$dir/native.a
 	echo "Measured is the library's own LLVM module, compiled for this processor ($(uname -m))."
 fi
@@ -29,7 +29,11 @@ objcopy --set-section-alignment '.text*=64' "$dir/library.a" 2>/dev/null || cp "
 
 $cc -o "$dir/speed" "$dir/speed.o" "$dir/plain.o" "$dir/library.a" ${LIBS:-}
 cat <<'END'
-Times are medians over the rounds; the ratio is the library's over plain C's.
+Library and plain C take turns over the same words, rules and packets. A round
+is one turn of each. Times are medians over the rounds. The ratio is made round
+by round, the library's time over plain C's, and the median of these is shown:
+so it need not be the quotient of the two times beside it. Below 1 the library
+is quicker.
 Cold caches: 8 MiB of other reads before each lookup, so that code and words
 come from far away. Cold words only: the code has run once on another store.
 On a quiet machine two copies of the same code come out within 0.05, cold ones

@@ -100,6 +100,11 @@ static void read_one(void)
 	answer |= reamstork_read(words, len, rules[20].number).answer;
 }
 
+static void rule_at(void)
+{
+	answer |= reamstork_rule_at(words, len, 21).answer;
+}
+
 static void cells(void)
 {
 	answer |= reamstork_cells(words, len).answer;
@@ -173,6 +178,7 @@ int main(void)
 	say("reamstork_delete", a - base);
 	say("reamstork_check", used(check) - base);
 	say("reamstork_read", used(read_one) - base);
+	say("reamstork_rule_at", used(rule_at) - base);
 	say("reamstork_cells", used(cells) - base);
 	say("reamstork_lookup", used(lookup) - base);
 	say("reamstork_lookup_packet", used(lookup_packet) - base);

@@ -12,27 +12,32 @@ from array import array
 from pathlib import Path
 
 from loads import (BASE, CELLS, CHECK, CLEAR, DELETE, DIFFERENCE, FILL, GET, INSERT, LOOKUP,
-                   LOOKUP_PACKET, LOOKUP_TALLY, PLACES, PREFIX, READ, SCAN, START, START_WITH, Call)
+                   LOOKUP_PACKET, LOOKUP_TALLY, PLACES, PREFIX, READ, RULE_AT, SCAN, START,
+                   START_WITH, Call)
 
 ROOT = Path(__file__).resolve().parent.parent
-ARCHIVE = ROOT / 'target/staticlib/libreamstork.a'
+# valgrind runs programs of its own machine alone: the archive is that for this one
+ARM = platform.machine() == 'aarch64'
+ARCHIVE = ROOT / ('target/aarch64' if ARM else 'target/staticlib') / 'libreamstork.a'
 # the words that each call gives
-GIVEN = {START: 1, START_WITH: 1, INSERT: 1, DELETE: 1, CHECK: 1, READ: 13, CELLS: 2, LOOKUP: 4,
+GIVEN = {START: 1, START_WITH: 1, INSERT: 1, DELETE: 1, CHECK: 1, READ: 13,
+         RULE_AT: 13, CELLS: 2, LOOKUP: 4,
          LOOKUP_PACKET: 4, LOOKUP_TALLY: 4 + 3 * PLACES, SCAN: 3, PREFIX: 3, CLEAR: 0,
          DIFFERENCE: 1}
-# else valgrind leaves out a load whose value is not used
-EVERY = '--vex-iropt-level=0'
+# else valgrind leaves out a load whose value is not used, and on Arm no atomic store succeeds
+EVERY = ('--vex-iropt-level=0', *['--sim-hints=fallback-llsc'] * ARM)
 # the C library copies by instructions that a trace has one line for, not one for each byte
 WIDE = ':'.join('glibc.cpu.x86_rep_%s_threshold=1000000000' % x for x in ('movsb', 'stosb'))
 
 
 def cannot():
-    """Why valgrind can run nothing here, in a line, and whether that is a failure."""
-    if platform.machine() != 'x86_64':
-        return ('this machine is %s and the archive is for x86-64: valgrind cannot run it here, '
-                'so nothing of this part is tried' % platform.machine()), False
-    missing = not shutil.which('valgrind')
-    return "missing: install Debian's package valgrind" if missing else '', missing
+    """What is missing to run valgrind on the archive, in a line, or nothing."""
+    if not shutil.which('valgrind'):
+        return "missing: install Debian's package valgrind"
+    if not ARCHIVE.exists():
+        return 'missing: %s, which make lib%s builds' % (ARCHIVE.relative_to(ROOT),
+                                                         ' MACHINE=aarch64' if ARM else '')
+    return ''
 
 
 class Script:
@@ -97,8 +102,8 @@ class Program:
 
     def __init__(self, archive, folder):
         self.path = Path(folder) / 'trace'
-        subprocess.run([ROOT / 'tests/x86cc', '-std=c11', '-O2', '-Wall', '-Wextra', '-static',
-                        '-no-pie', '-I', ROOT / 'include', ROOT / 'tests/trace.c', archive,
+        subprocess.run(['cc', '-std=c11', '-O2', '-Wall', '-Wextra', '-static', '-no-pie',
+                        '-I', ROOT / 'include', ROOT / 'tests/trace.c', archive,
                         '-o', self.path], check=True)
 
     def run(self, script):
@@ -119,7 +124,7 @@ class Program:
     def trace(self, script):
         """Each call with what it touches and what it gives."""
         lines, end = os.pipe()
-        p, results = self.valgrind(script, '--tool=lackey', '--trace-mem=yes', EVERY,
+        p, results = self.valgrind(script, '--tool=lackey', '--trace-mem=yes', *EVERY,
                                    '--log-fd=%d' % end, pass_fds=[end])
         os.close(end)
         with results, os.fdopen(lines, 'rb', 1 << 20) as file:

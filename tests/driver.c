@@ -43,7 +43,7 @@ enum { COMPARED_AT_ONCE = 1 << 14 };
 enum {
   RESET = 0, MAKE = 1, LEND = 2, SET = 3, GET = 4, DIGEST = 5, SAME = 6, COPY = 7,
   START = 16, START_WITH = 17, INSERT = 18, DELETE = 19, CHECK = 20, READ = 21,
-  CELLS = 22, LOOKUP = 23, PACKET = 24, PREFIX = 25, SCAN = 26,
+  CELLS = 22, LOOKUP = 23, PACKET = 24, PREFIX = 25, SCAN = 26, RULE_AT = 27,
   TALLY = 32, CLEAR = 33, DIFFERENCE = 34, RECORDS = 35
 };
 
@@ -338,8 +338,10 @@ static void scan(struct store *s) {
 static void look(uint32_t op) {
   struct store *s = next_store();
   if (op == CHECK) give_one(reamstork_check(s->words, s->lent));
-  if (op == READ) {
-    reamstork_rule rule = reamstork_read(s->words, s->lent, next());
+  if (op == READ || op == RULE_AT) {
+    uint32_t asked = next();
+    reamstork_rule rule = op == READ ? reamstork_read(s->words, s->lent, asked)
+                                     : reamstork_rule_at(s->words, s->lent, asked);
     uint32_t *out = give(13);
     out[0] = rule.answer, out[1] = rule.number, out[2] = rule.action;
     memcpy(out + 3, rule.low, 20);
@@ -428,7 +430,7 @@ static void run_batch(void) {
     else if (op == CLEAR) call_clear();
     else if (op == DIFFERENCE) call_difference();
     else if (op == RECORDS) call_records();
-    else if ((op >= CHECK && op <= SCAN) || op == TALLY) look(op);
+    else if ((op >= CHECK && op <= RULE_AT) || op == TALLY) look(op);
     else stop("no such command");
   }
   for (size_t i = 0; i < STORES; i++) compare_late(&stores[i]);

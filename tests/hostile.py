@@ -75,6 +75,8 @@ def question(talk, rng, store, lent, table):
     talk.cells(store)
     for number in (DEFAULT, rng.choice(table).number, 65536, 3):
         talk.read(store, number)
+    for place in (1, rng.randint(0, MOST_RULES + 1)):
+        talk.rule_at(store, place)
     for _ in range(4):
         values = values_near(rng, table)
         asked += [values, values]
@@ -90,13 +92,13 @@ def question(talk, rng, store, lent, table):
 def judge(results, asked, lent):
     """Judges the answers to one question; says whether the check passed."""
     check, cells = results[0], results[1]
-    reads, lookups = results[2:6], results[6:6 + len(asked)]
+    reads, lookups = results[2:8], results[8:8 + len(asked)]
     expect(check in ((0,), (9,)), 'the check gave %s' % (check,))
     passed = check == (0,)
     if not passed:
         expect(cells == (9, 0), 'cells gave %s where the check gives 9' % (cells,))
         for read in reads:
-            expect(read == (9,) + (0,) * 12, 'read gave %s where the check gives 9' % (read,))
+            expect(read == (9,) + (0,) * 12, 'read or rule_at gave %s where the check gives 9' % (read,))
     most = 5 * max((len(lent) - 1024) // 8, 0)
     for values, got in zip(asked, lookups):
         if values is None:

@@ -112,6 +112,7 @@ def every_length(talk, rng):
         talk.check(store.id, 0 if good else 9)
         talk.cells(store.id, (0, 5) if good else (9, 0))
         talk.read(store.id, DEFAULT, store.account.read(DEFAULT) if good else (9,) + (0,) * 12)
+        talk.rule_at(store.id, 1, store.account.rule_at(1) if good else (9,) + (0,) * 12)
         talk.lookup(store.id, values, (0, 7, 9, 5) if good else (9, 0, 0, 0))
         talk.lookup(store.id, (1, 2, 256, 4, 5), (11, 0, 0, 0))
         talk.packet(store.id, readable, (0, 7, 9, 5) if good else (9, 0, 0, 0))
@@ -229,6 +230,7 @@ def seven_before_nine(talk, rng):
             talk.cells(store, (9, 0))
             for number in (0, 65535, 65536):
                 talk.read(store, number, (9,) + (0,) * 12)
+                talk.rule_at(store, number, (9,) + (0,) * 12)
                 talk.delete(store, number, 9)
                 talk.insert(store, Rule(number, 1, (9,) * 5, (0,) * 5), 9)
             talk.start(store, 4, 8)

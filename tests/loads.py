@@ -21,8 +21,8 @@ RECORD = 12                    # words of a record of a list
 HEADER_BYTES = {0, 2, 3, 6, 7, 9, *range(12, 20)}
 
 # The commands of trace.c, and where it puts what it lends.
-(FILL, GET, START, START_WITH, INSERT, DELETE, CHECK, READ, CELLS, LOOKUP, LOOKUP_PACKET,
- LOOKUP_TALLY, SCAN, PREFIX, CLEAR, DIFFERENCE) = range(16)
+(FILL, GET, START, START_WITH, INSERT, DELETE, CHECK, READ, RULE_AT, CELLS, LOOKUP, LOOKUP_PACKET,
+ LOOKUP_TALLY, SCAN, PREFIX, CLEAR, DIFFERENCE) = range(17)
 BASE, SIZE = 0x300000000, 0x100000
 ENDS, TALLIES, PACKET, RECORDS, STORE = 0x1000, 0x2000, 0x4000, 0x8000, 0x10000
 STACK = 1 << 20
@@ -227,4 +227,5 @@ def see(call, touched, result):
         touched.only()
     else:
         {LOOKUP_PACKET: see_packet, LOOKUP_TALLY: see_tally, SCAN: see_scan, CHECK: see_reader,
-         READ: see_reader, CELLS: see_reader}.get(call.op, see_edit)(call, touched, result)
+         READ: see_reader, RULE_AT: see_reader,
+         CELLS: see_reader}.get(call.op, see_edit)(call, touched, result)

@@ -142,6 +142,13 @@ class Account:
             rule = self.rules[number]
         return (DONE, rule.number, rule.action) + rule.low + rule.high
 
+    def rule_at(self, place):
+        """The same for a place from 1 up, in the order of the numbers."""
+        numbers = sorted(self.rules)
+        if not 1 <= place <= len(numbers):
+            return (NOT_THERE,) + (0,) * 12
+        return self.read(numbers[place - 1])
+
     def cells(self):
         return (DONE, count_cells(self.table(), MOST_CELLS))
 

@@ -38,6 +38,9 @@ class Store:
     def read(self, number):
         self.talk.read(self.id, number, self.account.read(number))
 
+    def rule_at(self, place):
+        self.talk.rule_at(self.id, place, self.account.rule_at(place))
+
     def lookup(self, values):
         self.talk.lookup(self.id, values, self.account.lookup(values))
 
@@ -54,6 +57,9 @@ class Store:
             self.read(number)
         self.read(DEFAULT)
         self.read(rng.choice((65536, 2 ** 32 - 1, rng.randrange(65535), 65534, 0)))
+        for place in {0, 1, len(numbers), len(numbers) + 1, rng.randint(1, MOST_RULES + 1),
+                      rng.choice((65, 2 ** 16, 2 ** 32 - 1, rng.getrandbits(32)))}:
+            self.rule_at(place)
         table = account.table()
         for _ in range(lookups):
             values = values_near(rng, table)

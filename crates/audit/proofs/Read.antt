@@ -1,37 +1,26 @@
 -- What is read of a store that passes, by the tests that lead to each answer: where a rule stands, and the cells in use.
 -- Assumes nothing.
 use mathlib.Core.Path.{_≡_, refl, sym, ap, _∙_}
-use mathlib.Core.Logic.{inl, inr}
 use mathlib.Core.Bool.{true, false}
 use mathlib.Core.List.{List, [], _∷_}
-use Prim.Native.Nat.{ℕ, suc, _+_, _-_, _*_, _≤_, _<_}
+use Prim.Native.Nat.{ℕ, zero, suc, _+_, _-_, _*_, _≤_, _<_}
 use native.Mathlib.Omega.{arith}
 use native.Mathlib.Numerals.{add-one}
 use lib.Dec.{eqb}
 use lib.ListN.{length, getD, take, drop}
-use borrow.Author.Tests.{lt-ltb, le-ltb, eq-eqb, ne-eqb, eqb-true}
-use Rattle.model.specs.Lists.{In}
-use Rattle.model.specs.Table.{Kind, Shaped, rowWords, Rule, defaultRule, stands, ruleAt, readRule}
-use Rattle.model.proofs.Tests.{by-test, never}
-use Rattle.model.proofs.Limits.{in-rising, one-number}
+use borrow.Author.Tests.{lt-ltb, le-ltb, eq-eqb, ne-eqb}
+use Rattle.model.specs.Table.{Kind, Shaped, rowWords, Rule, defaultRule, stands, ruleAt, readRule, placeRule}
+use Rattle.model.proofs.Keep.{in-getD}
+use Rattle.model.proofs.Limits.{in-rising, one-number, rule-in, rule-none}
 use Rattle.table.specs.Rows.{noRule, placed, ruleIn, tableIn, ahead}
 use Rattle.table.proofs.Edits.{at-stands}
-use Rattle.layout.specs.Store.{rowsOf, tableOf, passes, readSays, cellsSays, cellsGives}
-use Rattle.layout.proofs.Words.{in-getD, rule-at}
-use Rattle.layout.proofs.Sound.{sound}
+use Rattle.layout.specs.Store.{rowsOf, tableOf, passes, readSays, placeSays, cellsSays, cellsGives}
+use Rattle.layout.proofs.Parts.{rows-slice}
+use Rattle.layout.proofs.Words.{rule-at}
+use Rattle.layout.proofs.Sound.{sound, count-is}
 use Rattle.layout.proofs.Passed.{sound-within, sound-free}
 
 -- READ
-rule-none : (d : Rule) (n : ℕ) (rs : List Rule) → ((r : Rule) → In r rs → r .number ≡ n → ⊥) → ruleAt d n rs ≡ d
-rule-none d n [] h = refl
-rule-none d n (x ∷ rs) h = rw (ne-eqb (x .number) n (h x (inl refl))) (rule-none d n rs (λ r m. h r (inr m)))
-
-rule-in : (d : Rule) (n : ℕ) (rs : List Rule) → stands n rs ≡ true → In (ruleAt d n rs) rs × (ruleAt d n rs .number ≡ n)
-rule-in d n [] s = never (sym s)
-rule-in d n (x ∷ rs) s = by-test (eqb (x .number) n)
-    (λ t. rw t (inl refl, eqb-true (x .number) n t))
-    (λ t. let i = rule-in d n rs (rw t at s) in rw t (inr (i .0), i .1))
-
 module _ (k : Kind) (sh : Shaped k) (ws : List ℕ) (n : ℕ) where
   pub find-9 : passes k ws ≡ false → 9 ≡ readSays k ws n
   find-9 h = rw h
@@ -69,13 +58,38 @@ module _ (k : Kind) (sh : Shaped k) (ws : List ℕ) (n : ℕ) where
               ap (λ i. ruleIn (length (k .tops)) (rowsOf k ws) (k .width * i)) (add-one p ∙ ap suc e) ∙ row-is (suc (ahead n R)) (omega (arith, a .0)) ∙ y,
             )
 
--- the rows as a slice of the words: E is the code's end of them
-module _ (k : Kind) (ws : List ℕ) (E : ℕ) (f : E ≡ k .head + rowWords k) where
-  pub slice-rows : take (E - k .head) (drop (k .head) ws) ≡ rowsOf k ws
-  slice-rows = let z : E - k .head ≡ rowWords k = omega arith in ap (λ m. take m (drop (k .head) ws)) z
+-- THE RULE AT A PLACE
+-- within a list it does not matter what stands behind it
+either-default : (rs : List Rule) (i : ℕ) (d e : Rule) → i < length rs → getD rs i d ≡ getD rs i e
+either-default [] i d e l = absurd (omega arith)
+either-default (r ∷ rs) zero d e l = refl
+either-default (r ∷ rs) (suc i) d e l = either-default rs i d e (omega arith)
 
-  pub slice-table : tableIn k (getD ws 1 0) (take (E - k .head) (drop (k .head) ws)) ≡ tableOf k ws
-  slice-table = ap (tableIn k (getD ws 1 0)) slice-rows
+module _ (k : Kind) (sh : Shaped k) (ws : List ℕ) (p : ℕ) where
+  pub at-9 : passes k ws ≡ false → 9 ≡ placeSays k ws p
+  at-9 h = rw h
+
+  module _ (h : passes k ws ≡ true) where
+    pub at-none : p ≡ 0 → 4 ≡ placeSays k ws p
+    at-none z = rw (h, eq-eqb p 0 z)
+
+    module _ (o : p ≡ 0 → ⊥) where
+      pub at-4 : getD ws 1 0 < p → 4 ≡ placeSays k ws p
+      at-4 l = rw (h, ne-eqb p 0 o, lt-ltb (length (tableOf k ws .rules)) p (omega (arith, count-is k sh ws)))
+
+      pub at-0 : p ≤ getD ws 1 0 → (0 ≡ placeSays k ws p) × (ruleIn (length (k .tops)) (rowsOf k ws) (k .width * p) ≡ placeRule k (tableOf k ws) p)
+      unfolding placed
+      at-0 l =
+          let R = tableOf k ws .rules in
+          let m : p ≤ length R = omega (arith, count-is k sh ws) in
+          let y : p ≡ suc (p - 1) = omega arith in (
+            rw (h, ne-eqb p 0 o, le-ltb (length R) p m),
+            row-is k sh ws p h p m ∙ ap (λ i. getD (defaultRule k (tableOf k ws .action) ∷ R) i noRule) y ∙ either-default R (p - 1) noRule (defaultRule k (tableOf k ws .action)) (omega arith),
+          )
+
+-- the table of the rows as a slice of the words: E is the code's end of them
+pub slice-table : (k : Kind) (ws : List ℕ) (E : ℕ) → E ≡ k .head + rowWords k → tableIn k (getD ws 1 0) (take (E - k .head) (drop (k .head) ws)) ≡ tableOf k ws
+slice-table k ws E f = ap (tableIn k (getD ws 1 0)) (rows-slice k ws E f)
 
 -- CELLS
 module _ (k : Kind) (sh : Shaped k) (ws : List ℕ) where

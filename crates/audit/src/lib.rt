@@ -1,13 +1,13 @@
-// The check of a store of any kind, and what is read of one that passes: where the row of a number begins, and the cells in use. Words are only read.
+// The check of a store of any kind, and what is read of one that passes: where the row of a number begins, or of a place, and the cells in use. Words are only read.
 ghost use mathlib.Core.Path.{_≡_};
 ghost use Prim.Native.Nat.{suc, _+_, _*_, _≤_};
 ghost use lib.ListN.{length};
 ghost use Rattle.model.specs.Lists.{same};
-ghost use Rattle.model.specs.Table.{Shaped, readRule};
+ghost use Rattle.model.specs.Table.{Shaped, readRule, placeRule};
 ghost use Rattle.rows.specs.Rows.{treeAt, Scratch};
 ghost use Rattle.cells.specs.Text.{part};
 ghost use Rattle.table.specs.Rows.{kindOf, ruleIn, Rowed, places as placesOf};
-ghost use Rattle.layout.specs.Store.{size, rowsOf, tableOf, roomFor, passes, readSays, cellsSays, cellsGives};
+ghost use Rattle.layout.specs.Store.{size, rowsOf, tableOf, roomFor, passes, readSays, placeSays, cellsSays, cellsGives};
 ghost use Rattle.layout.specs.Inner.{tableStands, bodyStands};
 use table::Shape;
 
@@ -150,6 +150,33 @@ pub fn find(
     Place {
         answer: 0,
         row: table::row_start(shape.width, p + 1),
+    }
+}
+
+// Where the rule at a place stands. Places are counted from 1, by rising number.
+pub fn find_at(
+    words: &[u32],
+    place: u32,
+    tops: &[u32],
+    shape: Shape,
+    sets: &mut [u16],
+    ends: &mut [u32],
+) -> Place
+    requires { ⌜ Shaped (kindOf (now tops) shape) × Scratch (suc (shape .most)) (length (now tops)) (now sets) (now ends) ⌝ }
+    ensures { λ r. ⌜ (r .answer ≡ placeSays (kindOf (now (tops .entry)) shape) (now (words .entry)) place) × (r .answer ≡ 0 → ruleIn (length (now (tops .entry))) (rowsOf (kindOf (now (tops .entry)) shape) (now (words .entry))) (r .row) ≡ placeRule (kindOf (now (tops .entry)) shape) (tableOf (kindOf (now (tops .entry)) shape) (now (words .entry))) place) ⌝ }
+{
+    if !check(words, tops, shape, sets, ends) {
+        return Place { answer: 9, row: 0 };
+    }
+    if place == 0 {
+        return Place { answer: 4, row: 0 };
+    }
+    if words[1] < place {
+        return Place { answer: 4, row: 0 };
+    }
+    Place {
+        answer: 0,
+        row: table::row_start(shape.width, place),
     }
 }
 

@@ -10,11 +10,11 @@ ghost use Rattle.bench.specs.Store.{benchWords};
 ghost use Rattle.bench.specs.Room.{staying};
 ghost use Rattle.listing.specs.Records.{lengthOf};
 use capture::Opened;
-use capture::Order;
 use ipv4::Rule;
 use libc::STDIN_FILENO;
 use libc::STDOUT_FILENO;
 use listing::Read;
+use octets::Order;
 
 fn main() {
     let mut words = [0u32; 16384];

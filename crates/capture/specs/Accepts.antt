@@ -11,11 +11,12 @@ use borrow.Author.Tests.{ltb-false, eqb-true, eq-eqb}
 use lib.Dec.{ltb, eqb, lit<}
 use lib.ListN.{length, getD, take, drop}
 use lib.Seq.{drop-cons, getD-take}
-use Rattle.capture.specs.declared.Order.{Order}
-use Rattle.capture.specs.declared.Order.the-variants.{Big, Little}
+use Rattle.octets.specs.declared.Order.{Order}
+use Rattle.octets.specs.declared.Order.the-variants.{Big, Little}
 use Rattle.capture.specs.declared.Opened.{Opened}
 use Rattle.capture.specs.declared.Opened.the-variants.{Capture, Refused}
-use Rattle.capture.specs.Pcap.{half, word, magic, begins, byMagic, accepted, opened, answerOf}
+use Rattle.octets.specs.Octets.{half, word}
+use Rattle.capture.specs.Pcap.{magic, startsWith, byMagic, accepted, opened, openAnswer}
 use Rattle.capture.specs.Cases.{forward, backward, taken}
 
 -- bytes as they stand in a file of an order, which are given from the most significant on
@@ -35,13 +36,13 @@ both true b e = (refl, e)
 both false b e = let z : _≡_ {A = Bool} true false = cc in (sym z, cc)
 
 -- a test of bytes from a place on says that they are these, and the other way round
-starts : (s : List ℕ) (at : ℕ) (xs : List ℕ) → at + length xs ≤ length s → begins s at xs ≡ true → take (length xs) (drop at s) ≡ xs
+starts : (s : List ℕ) (at : ℕ) (xs : List ℕ) → at + length xs ≤ length s → startsWith s at xs ≡ true → take (length xs) (drop at s) ≡ xs
 starts s at [] h e = refl
 starts s at (x ∷ xs) h e =
-    let t : (eqb (getD s at 0) x ≡ true) × (begins s (at + 1) xs ≡ true) = both _ _ e in
+    let t : (eqb (getD s at 0) x ≡ true) × (startsWith s (at + 1) xs ≡ true) = both _ _ e in
     rw (drop-cons s at 0 (omega arith), eqb-true (getD s at 0) x (t .0), ← add-one at, starts s (at + 1) xs (omega arith) (t .1))
 
-stood : (s : List ℕ) (at : ℕ) (xs : List ℕ) → at + length xs ≤ length s → take (length xs) (drop at s) ≡ xs → begins s at xs ≡ true
+stood : (s : List ℕ) (at : ℕ) (xs : List ℕ) → at + length xs ≤ length s → take (length xs) (drop at s) ≡ xs → startsWith s at xs ≡ true
 stood s at [] h e = refl
 stood s at (x ∷ xs) h e =
     let q : getD s at 0 ∷ take (length xs) (drop (at + 1) s) ≡ x ∷ xs = rw (drop-cons s at 0 (omega arith), ← add-one at) at e in
@@ -61,7 +62,7 @@ module _ (s : List ℕ) (o : Order) where
       let z : _≡_ {A = ℕ} 0 1 = cc in
       absurd (omega arith)
 
-  split : (f g b : Bool) → ltb (length s) 24 ≡ f → begins s 0 magic ≡ g → begins s 0 (reverse magic) ≡ b → opened s ≡ Capture o → Accepted s o
+  split : (f g b : Bool) → ltb (length s) 24 ≡ f → startsWith s 0 magic ≡ g → startsWith s 0 (reverse magic) ≡ b → opened s ≡ Capture o → Accepted s o
   unfolding opened byMagic
   split true g b p q r e = let z : _≡_ {A = ℕ} 0 1 = cc (rw p at e) in absurd (omega arith)
   split false true b p q r e =
@@ -82,10 +83,10 @@ module _ (s : List ℕ) (o : Order) where
           sym (backward s (rw first) (stood s 0 (reverse magic) (omega (arith, a .long)) (a .start)))
 
 -- The answer is 12 if and only if the file is accepted in neither order.
-pub twelve : (s : List ℕ) → (answerOf (opened s) ≡ 12) ↔ ((o : Order) → Accepted s o → ⊥)
+pub twelve : (s : List ℕ) → (openAnswer (opened s) ≡ 12) ↔ ((o : Order) → Accepted s o → ⊥)
 twelve s = pick (opened s) refl
   where
-    pick : (m : Opened) → opened s ≡ m → (answerOf (opened s) ≡ 12) ↔ ((o : Order) → Accepted s o → ⊥)
+    pick : (m : Opened) → opened s ≡ m → (openAnswer (opened s) ≡ 12) ↔ ((o : Order) → Accepted s o → ⊥)
     pick (Capture o) e = (λ t. absurd (omega (arith, rw e at t)), λ n. absurd (n o (accepts s o .0 e)))
     pick Refused e =
         (λ _ o a. let z : _≡_ {A = ℕ} 0 1 = cc (accepts s o .1 a) in omega arith, λ _. rw e)

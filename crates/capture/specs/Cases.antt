@@ -6,22 +6,23 @@ use mathlib.Core.Bool.{true, false}
 use mathlib.Core.List.{List, reverse}
 use lib.ListN.{length}
 use borrow.Author.Tests.{lt-ltb, le-ltb, eq-eqb, ne-eqb}
-use Rattle.capture.specs.declared.Order.{Order}
-use Rattle.capture.specs.declared.Order.the-variants.{Big, Little}
+use Rattle.octets.specs.declared.Order.{Order}
+use Rattle.octets.specs.declared.Order.the-variants.{Big, Little}
 use Rattle.capture.specs.declared.Opened.the-variants.{Capture, Refused}
 use Rattle.capture.specs.declared.Next.the-variants.{Edge, Cut, TooLong, Data}
-use Rattle.capture.specs.Pcap.{half, word, magic, begins, byMagic, accepted, opened, nextOf}
+use Rattle.octets.specs.Octets.{half, word}
+use Rattle.capture.specs.Pcap.{magic, startsWith, byMagic, accepted, opened, nextOf}
 
 module _ (s : List ℕ) where
-  pub forward : begins s 0 magic ≡ true → Capture Big ≡ byMagic s
+  pub forward : startsWith s 0 magic ≡ true → Capture Big ≡ byMagic s
   unfolding byMagic
   forward e = rw e
 
-  pub backward : begins s 0 magic ≡ false → begins s 0 (reverse magic) ≡ true → Capture Little ≡ byMagic s
+  pub backward : startsWith s 0 magic ≡ false → startsWith s 0 (reverse magic) ≡ true → Capture Little ≡ byMagic s
   unfolding byMagic
   backward e f = rw (e, f)
 
-  pub neither : begins s 0 magic ≡ false → begins s 0 (reverse magic) ≡ false → Refused ≡ byMagic s
+  pub neither : startsWith s 0 magic ≡ false → startsWith s 0 (reverse magic) ≡ false → Refused ≡ byMagic s
   unfolding byMagic
   neither e f = rw (e, f)
 

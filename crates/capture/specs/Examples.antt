@@ -5,7 +5,7 @@ use mathlib.Core.Path.{_≡_, refl}
 use mathlib.Core.List.{List, [], _∷_, _++_}
 use lib.ListN.{take, set}
 use Rattle.capture.specs.declared.Opened.the-variants.{Refused}
-use Rattle.capture.specs.Pcap.{byMagic, accepted, opened, recordsIn, records, read, refused, reading}
+use Rattle.capture.specs.Pcap.{byMagic, accepted, opened, recordsIn, records, read, noCapture, reading}
 
 -- a file header, most significant byte first, and the same in reverse
 big : List ℕ
@@ -92,6 +92,6 @@ nanoseconds : opened (0xA1 ∷ 0xB2 ∷ 0x3C ∷ 0x4D ∷ 0 ∷ 2 ∷ 0 ∷ 4 �
 unfolding byMagic accepted opened
 nanoseconds = refl
 
-refused-12 : reading (take 23 big) ≡ refused 12
+refused-12 : reading (take 23 big) ≡ noCapture 12
 unfolding big byMagic accepted opened reading
 refused-12 = refl

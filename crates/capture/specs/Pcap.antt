@@ -1,32 +1,18 @@
 -- The classic capture file: the pcap layout of the IETF draft, as document 01 reads it in "The bench program".
 -- A byte past the end counts as 0.
 -- Assumes nothing.
-use Prim.Native.Nat.{ℕ, zero, suc, _+_, _*_}
+use Prim.Native.Nat.{ℕ, zero, suc, _+_}
 use mathlib.Core.Bool.{Bool, true, cond, _&&_}
 use mathlib.Core.List.{List, [], _∷_, reverse}
 use lib.ListN.{length, getD, take, drop}
 use lib.Dec.{ltb, leb, eqb}
-use Rattle.capture.specs.declared.Order.{Order}
-use Rattle.capture.specs.declared.Order.the-variants.{Big, Little}
+use Rattle.octets.specs.declared.Order.{Order}
+use Rattle.octets.specs.declared.Order.the-variants.{Big, Little}
+use Rattle.octets.specs.Octets.{half, word}
 use Rattle.capture.specs.declared.Opened.{Opened}
 use Rattle.capture.specs.declared.Opened.the-variants.{Capture, Refused}
 use Rattle.capture.specs.declared.Next.{Next}
 use Rattle.capture.specs.declared.Next.the-variants.{Edge, Cut, TooLong, Data}
-
--- ---- numbers: "that order then holds for all its numbers"
-
--- a number of two parts as they stand in the file: the lesser part is below the base, the other counts in bases
-abbrev pub joined : Order → ℕ → ℕ → ℕ → ℕ
-joined Big base first second = first * base + second
-joined Little base first second = second * base + first
-
--- the 16-bit number at a place
-abbrev pub half : Order → List ℕ → ℕ → ℕ
-half o s at = joined o 256 (getD s at 0) (getD s (at + 1) 0)
-
--- the 32-bit number at a place
-abbrev pub word : Order → List ℕ → ℕ → ℕ
-word o s at = joined o 65536 (half o s at) (half o s (at + 2))
 
 -- ---- the file header: 24 bytes. Magic bytes at 0, major version at 4, minor at 6, reserved at 8 and 12, longest capture at 16, link type at 20
 
@@ -35,13 +21,13 @@ abbrev pub magic : List ℕ
 magic = 0xA1 ∷ 0xB2 ∷ 0xC3 ∷ 0xD4 ∷ []
 
 -- the bytes from a place on begin with these
-abbrev pub begins : List ℕ → ℕ → List ℕ → Bool
-begins s at [] = true
-begins s at (x ∷ xs) = eqb (getD s at 0) x && begins s (at + 1) xs
+abbrev pub startsWith : List ℕ → ℕ → List ℕ → Bool
+startsWith s at [] = true
+startsWith s at (x ∷ xs) = eqb (getD s at 0) x && startsWith s (at + 1) xs
 
--- "The capture must begin with the bytes A1 B2 C3 D4, or the same in reverse"
+-- "The capture must begin with the bytes A1 B2 C3 D4, or the same in reverse"; "that order then holds for all its numbers"
 unfoldable pub byMagic : List ℕ → Opened
-byMagic s = cond (begins s 0 magic) (Capture Big) (cond (begins s 0 (reverse magic)) (Capture Little) Refused)
+byMagic s = cond (startsWith s 0 magic) (Capture Big) (cond (startsWith s 0 (reverse magic)) (Capture Little) Refused)
 
 -- "version 2.4; the whole link type number 101 (raw IP)"
 unfoldable pub accepted : Order → List ℕ → Bool
@@ -57,9 +43,9 @@ unfoldable pub opened : List ℕ → Opened
 opened s = cond (ltb (length s) 24) Refused (ifAccepted s (byMagic s))
 
 -- document 01's number for what opening answers
-abbrev pub answerOf : Opened → ℕ
-answerOf (Capture o) = 0
-answerOf Refused = 12
+abbrev pub openAnswer : Opened → ℕ
+openAnswer (Capture o) = 0
+openAnswer Refused = 12
 
 -- ---- a record: a header of 16 bytes, with seconds at 0, parts of a second at 4, captured length at 8, original length at 12;
 -- and then as many bytes as were captured
@@ -109,13 +95,13 @@ after o rest (Data n) = cond (leb n (length (take n rest))) (listed (take n rest
 
 -- a capture that is refused, or its records
 pub data Reading : Type 0 where
-  refused : ℕ → Reading
+  noCapture : ℕ → Reading
   read : Listing → Reading
 
 -- what the whole file is, by what opening it answers: behind its header stand the records
 abbrev pub readingBy : List ℕ → Opened → Reading
 readingBy s (Capture o) = read (records o (drop 24 s))
-readingBy s Refused = refused (answerOf Refused)
+readingBy s Refused = noCapture (openAnswer Refused)
 
 unfoldable pub reading : List ℕ → Reading
 reading s = readingBy s (opened s)

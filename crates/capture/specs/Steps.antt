@@ -10,8 +10,9 @@ use borrow.Author.Tests.{le-leb, lt-leb, eq-eqb, ltb-true, ltb-false, eqb-true, 
 use lib.Dec.{ltb, leb, eqb, lit<}
 use lib.ListN.{length, take, drop, length-take, length-drop}
 use lib.Seq.{getD-take, drop-drop}
-use Rattle.capture.specs.declared.Order.{Order}
-use Rattle.capture.specs.Pcap.{word, nextOf, Listing, ended, listed, recordsIn, records, after}
+use Rattle.octets.specs.declared.Order.{Order}
+use Rattle.octets.specs.Octets.{word}
+use Rattle.capture.specs.Pcap.{nextOf, Listing, ended, listed, recordsIn, records, after}
 use Rattle.capture.specs.Cases.{edge, cut, long, whole}
 
 -- more turns than bytes change nothing

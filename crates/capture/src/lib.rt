@@ -4,13 +4,8 @@ ghost use mathlib.Core.List.{[], _∷_};
 ghost use Prim.Native.Nat.{_+_, _<_, _≤_};
 ghost use lib.ListN.{length};
 ghost use lib.Dec.{leb};
-ghost use Rattle.capture.specs.Pcap.{begins, half, word, byMagic, opened, nextOf};
-
-// The order of the bytes of a capture's numbers: the most significant first, or last.
-pub enum Order {
-    Big,
-    Little,
-}
+ghost use Rattle.capture.specs.Pcap.{startsWith, byMagic, opened, nextOf};
+use octets::Order;
 
 // What the first bytes of a file are: those of a capture that is accepted, or not.
 pub enum Opened {
@@ -30,43 +25,10 @@ pub enum Next {
     Data(u32),
 }
 
-// A byte as a wider number.
-fn wide(b: u8) -> u32
-    ensures { λ r. ⌜ (r ≡ b) × (r < 256) ⌝ }
-{
-    b as u32
-}
-
-// The 16-bit number at a place, in the capture's order.
-fn half_at(order: Order, s: &[u8], at: usize) -> u32
-    requires { ⌜ at + 1 < length (now s) ⌝ }
-    ensures { λ r. ⌜ (r ≡ half order (now (s .entry)) at) × (r < 65536) ⌝ }
-{
-    let first = wide(s[at]);
-    let second = wide(s[at + 1]);
-    match order {
-        Order::Big => first * 256 + second,
-        Order::Little => second * 256 + first,
-    }
-}
-
-// The 32-bit number at a place, in the capture's order.
-fn word_at(order: Order, s: &[u8], at: usize) -> u32
-    requires { ⌜ at + 3 < length (now s) ⌝ }
-    ensures { λ r. ⌜ r ≡ word order (now (s .entry)) at ⌝ }
-{
-    let first = half_at(order, s, at);
-    let second = half_at(order, s, at + 2);
-    match order {
-        Order::Big => first * 65536 + second,
-        Order::Little => second * 65536 + first,
-    }
-}
-
 // Whether the first four bytes are these.
 fn starts(s: &[u8], a: u8, b: u8, c: u8, d: u8) -> bool
     requires { ⌜ 4 ≤ length (now s) ⌝ }
-    ensures { λ r. ⌜ r ≡ begins (now (s .entry)) 0 (a ∷ b ∷ c ∷ d ∷ []) ⌝ }
+    ensures { λ r. ⌜ r ≡ startsWith (now (s .entry)) 0 (a ∷ b ∷ c ∷ d ∷ []) ⌝ }
 {
     if s[0] != a {
         return false;
@@ -105,13 +67,13 @@ pub fn open(s: &[u8]) -> Opened
     let Opened::Capture(order) = by_magic(s) else {
         return Opened::Refused;
     };
-    if half_at(order, s, 4) != 2 {
+    if octets::half_at(order, s, 4) != 2 {
         return Opened::Refused;
     }
-    if half_at(order, s, 6) != 4 {
+    if octets::half_at(order, s, 6) != 4 {
         return Opened::Refused;
     }
-    if word_at(order, s, 20) != 101 {
+    if octets::word_at(order, s, 20) != 101 {
         return Opened::Refused;
     }
     Opened::Capture(order)
@@ -127,7 +89,7 @@ pub fn record_header(order: Order, bytes: &[u8]) -> Next
     if bytes.len() < 16 {
         return Next::Cut;
     }
-    let captured = word_at(order, bytes, 8);
+    let captured = octets::word_at(order, bytes, 8);
     if 16384 < captured {
         return Next::TooLong;
     }

@@ -11,9 +11,9 @@ use Rattle.model.specs.Rules.{covers, ends, Tree, chain}
 use Rattle.rows.specs.Rows.{fieldAt, firstOf, treeAt, underAt, Flat}
 use Rattle.rows.proofs.Sets.{tree-none, tree-step}
 use Rattle.rows.proofs.Insert.{back}
-use Rattle.cells.specs.Text.{at, word, onlyDown, frees, Run, len, low, row, width, under, first, marks, belows, treeText}
+use Rattle.cells.specs.Text.{at, cellWord, onlyDown, frees, Run, len, low, row, width, under, first, marks, belows, treeText}
 use Rattle.cells.specs.declared.Below.{Below}
-use Rattle.cells.specs.States.{firstFree, hung, wrote, State, Spare, plain, Rows, Lays, Held, Builds, Hangs, Narrows, Built}
+use Rattle.cells.specs.States.{firstFree, hung, wrote, State, Spare, plain, Rows, Lays, TreeHeld, Builds, Hangs, Narrows, Built}
 use Rattle.cells.proofs.Text.{marks-len}
 use Rattle.cells.proofs.State.{st-head, st-length, st-put, both-past, both-back}
 use Rattle.cells.proofs.Runs.{took, rows-none, run-room, run-built}
@@ -49,7 +49,7 @@ pub laid : {ws es : List ℕ} {h c a n : ℕ} {q : List ℕ} {i : ℕ} → Layin
 laid {ws} {es} {h} {c} {a} {n} {q} {i} b l = let z : i ≡ 0 = omega arith in let y : 0 + n ≡ n = omega arith in rw y at (rw z at (b .rows))
 
 -- the end of a cell that is written
-pub wrote-end : (ws : List ℕ) (k e x : ℕ) (d : Below) → at k 3 < length ws → word (wrote ws k e x d) k 0 ≡ e
+pub wrote-end : (ws : List ℕ) (k e x : ℕ) (d : Below) → at k 3 < length ws → cellWord (wrote ws k e x d) k 0 ≡ e
 wrote-end ws k e x d h =
     let l = set ws (at k 0) e in
     let m = set l (at k 1) x in
@@ -172,11 +172,11 @@ module _ {ws : List ℕ} {c a n k : ℕ} {q : List ℕ} {u : ℕ → Tree ℕ} {
   turn-room = omega (arith, turn-lt, turn-state .tot)
 
   -- the end that the cell has
-  turn-word : word ws k 0 ≡ o .e
+  turn-word : cellWord ws k 0 ≡ o .e
   unfolding join
   turn-word = run-word P B (o .e) (onlyDown 0) (bare (o .up)) _ (o .mid .state) k 0 (o .at-k)
 
-  module _ (v : Tree ℕ) (w : v ≡ u (word ws k 0)) where
+  module _ (v : Tree ℕ) (w : v ≡ u (cellWord ws k 0)) where
     is-u : v ≡ U
     is-u = w ∙ ap u turn-word
 
@@ -184,7 +184,7 @@ module _ {ws : List ℕ} {c a n k : ℕ} {q : List ℕ} {u : ℕ → Tree ℕ} {
     turn-spare = rw is-u (record { a = _; more = _; q = _; state = turn-state })
 
     module _ (ws' : List ℕ) (g : Below) (below : Builds ws ws' g c v) where
-      turn-held : Held ws' g c (B + under P) Left Before U
+      turn-held : TreeHeld ws' g c (B + under P) Left Before U
       turn-held = (rw is-u at below) _ _ _ turn-state
 
       pub down-room : at k 3 < length ws'
@@ -208,18 +208,18 @@ module _ {ws : List ℕ} {c a n k : ℕ} {q : List ℕ} {u : ℕ → Tree ℕ} {
             mid = record { wide = omega (arith, o .mid .wide); state = rw (turn-held .top) (rw x at s3) };
           }
 
-pub filled-all : {ws ws₀ : List ℕ} {h c a n n' k : ℕ} {q : List ℕ} {u : ℕ → Tree ℕ} {es : List ℕ} → Filling ws c a n q k u es → Rows ws₀ h c a n' q (plain es) → a + length es ≤ k → Held ws (onlyDown h) c a n q (chain u es)
+pub filled-all : {ws ws₀ : List ℕ} {h c a n n' k : ℕ} {q : List ℕ} {u : ℕ → Tree ℕ} {es : List ℕ} → Filling ws c a n q k u es → Rows ws₀ h c a n' q (plain es) → a + length es ≤ k → TreeHeld ws (onlyDown h) c a n q (chain u es)
 unfolding bare count join
 filled-all {ws} {ws₀} {h} {c} {a} {n} {n'} {k} {q} {u} {es} g b l = go (g .up) (g .is) (g .mid)
   where
-    go : (up : List ℕ) → reverseAux up (g .ds) ≡ es → Mid ws c a (a + length es) (under (chain u es) - under (chain u (g .ds)) + n) q (chain u (g .ds)) (bare up) → Held ws (onlyDown h) c a n q (chain u es)
+    go : (up : List ℕ) → reverseAux up (g .ds) ≡ es → Mid ws c a (a + length es) (under (chain u es) - under (chain u (g .ds)) + n) q (chain u (g .ds)) (bare up) → TreeHeld ws (onlyDown h) c a n q (chain u es)
     go [] i m =
         let y : under (chain u es) - under (chain u es) + n ≡ n = omega arith in
         record { top = ap onlyDown (b .lowest) ∙ low-plain c a u es; state = rw (width-chain u es) (rw y at (rw i at (m .state))) }
     go (e ∷ up) i m = absurd (omega (arith, g .at-k, m .wide, width-chain u (g .ds)))
 
 -- The tree of rules: where no field is left, and where one is.
-pub built-none : {ws : List ℕ} {c a : ℕ} {b : Below} {q : List ℕ} (rules ps : List ℕ) (f n m : ℕ) → n ≡ 0 → b ≡ onlyDown (firstOf ps) → State ws c a a q (frees a (width (treeAt rules f n ps) + under (treeAt rules f n ps) + m)) → Held ws b c a m q (treeAt rules f n ps)
+pub built-none : {ws : List ℕ} {c a : ℕ} {b : Below} {q : List ℕ} (rules ps : List ℕ) (f n m : ℕ) → n ≡ 0 → b ≡ onlyDown (firstOf ps) → State ws c a a q (frees a (width (treeAt rules f n ps) + under (treeAt rules f n ps) + m)) → TreeHeld ws b c a m q (treeAt rules f n ps)
 unfolding width under marks row belows first
 built-none {ws} {c} {a} {b} {q} rules ps f n m e h s =
     let z : a + 0 + 0 ≡ a = omega arith in
@@ -262,11 +262,11 @@ module _ {base : ℕ} {ws₀ ws sets₀ sets ends₀ ends' : List ℕ} {n h c f 
   pub fill-turn : (a m : ℕ) (q : List ℕ) → k₀ ≡ a → Run-of (drop base ws₀) h c (take base ws₀) (take n sets₀) f d a m q → k < firstFree (drop base ws₀) → Turn (drop base ws) c a m q k Under (ends (fieldAt (take base ws₀) f) (take n sets₀))
   fill-turn a m q e b l = turns (g .fills a m q e b) (omega (arith, past-run _ b))
 
-  module _ {sets' : List ℕ} {m e : ℕ} (v : Narrows (take base ws) sets sets' n m f e) (w : e ≡ word (drop base ws) k 0) (long : length sets' ≡ length sets) (fits : n ≤ length sets) where
-    pub below-is : treeAt (take base ws) (f + 1) (d - 1) (take m (midOf n (length sets' - n) sets')) ≡ Under (word (drop base ws) k 0)
+  module _ {sets' : List ℕ} {m e : ℕ} (v : Narrows (take base ws) sets sets' n m f e) (w : e ≡ cellWord (drop base ws) k 0) (long : length sets' ≡ length sets) (fits : n ≤ length sets) where
+    pub below-is : treeAt (take base ws) (f + 1) (d - 1) (take m (midOf n (length sets' - n) sets')) ≡ Under (cellWord (drop base ws) k 0)
     below-is =
         rw (lent n sets' (omega arith), g .kept)
-        (under-is (take base ws₀) (take n sets₀) _ f d (word (drop base ws) k 0) (rw (g .kept, g .set-kept, w) at (v .next)))
+        (under-is (take base ws₀) (take n sets₀) _ f d (cellWord (drop base ws) k 0) (rw (g .kept, g .set-kept, w) at (v .next)))
 
     pub fill-on : (ys : List ℕ) {ws1 ws2 ends2 : List ℕ} {down : Below} → Built base ws ws1 down c (treeAt (take base ws) (f + 1) (d - 1) (take m (midOf n (length sets' - n) sets'))) → length ws1 ≡ length ws
         → Hangs base ws1 ws2 k down → length ws2 ≡ length ws1 → length (putMid n (length sets' - n) sets' ys) ≡ length sets' → length ends2 ≡ length ends' → k < firstFree (drop base ws₀)
@@ -285,7 +285,7 @@ pub one-first : {ws rules ps : List ℕ} {f d c e : ℕ} → (d ≡ 0 → ⊥) �
 one-first {ws} {rules} {ps} {f} {d} nz l r = record { a = r .a; more = _; q = r .q; state = rw (l .one) at (split rules ps f d (r .more) nz (r .state)) }
 
 module _ (n : ℕ) {ws ws1 rules ps : List ℕ} {f d c a e k : ℕ} {q : List ℕ} (nz : d ≡ 0 → ⊥) (l : Flat rules f ps e)
-    (s : State ws c a a q (frees a (width (treeAt rules f d ps) + under (treeAt rules f d ps) + n))) (lay : Lays ws ws1 k c (e ∷ [])) (w : word ws1 k 0 ≡ e) where
+    (s : State ws c a a q (frees a (width (treeAt rules f d ps) + under (treeAt rules f d ps) + n))) (lay : Lays ws ws1 k c (e ∷ [])) (w : cellWord ws1 k 0 ≡ e) where
   abbrev ends-here : List ℕ
   ends-here = ends (fieldAt rules f) ps
 
@@ -302,8 +302,8 @@ module _ (n : ℕ) {ws ws1 rules ps : List ℕ} {f d c a e k : ℕ} {q : List �
   one-turn : Turn ws1 c a n q k below-here ends-here
   one-turn = rw one-at (turns (filling below-here ends-here one-run) (omega (arith, ap length (l .one))))
 
-  one-below : treeAt rules (f + 1) (d - 1) ps ≡ below-here (word ws1 k 0)
-  one-below = under-is rules ps ps f d (word ws1 k 0) (rw w (sym (l .all)))
+  one-below : treeAt rules (f + 1) (d - 1) ps ≡ below-here (cellWord ws1 k 0)
+  one-below = under-is rules ps ps f d (cellWord ws1 k 0) (rw w (sym (l .all)))
 
   pub one-spare : Spare ws1 c (width (treeAt rules (f + 1) (d - 1) ps) + under (treeAt rules (f + 1) (d - 1) ps))
   one-spare = turn-spare one-turn _ one-below
@@ -312,5 +312,5 @@ module _ (n : ℕ) {ws ws1 rules ps : List ℕ} {f d c a e k : ℕ} {q : List �
     pub one-room : at k 3 < length ws2
     one-room = down-room one-turn _ one-below ws2 g b
 
-    pub one-built : Held (hung ws2 k g) (onlyDown k) c a n q (treeAt rules f d ps)
+    pub one-built : TreeHeld (hung ws2 k g) (onlyDown k) c a n q (treeAt rules f d ps)
     one-built = rw (tree-step rules f d ps nz) (filled-all (filled one-turn _ one-below ws2 g b) one-run (omega (arith, one-at, ap length (l .one))))

@@ -6,10 +6,10 @@ use Prim.Native.Nat.{ℕ, _+_, _-_, _*_, _≤_, _<_}
 use native.Mathlib.Omega.{arith}
 use lib.ListN.{length}
 use Rattle.model.specs.Rules.{Tree, names, stop, loc}
-use Rattle.cells.specs.Text.{at, word, belowAt, frees, Run, nil, len, low, row, width, under, first, marks, belows, treeText}
+use Rattle.cells.specs.Text.{at, cellWord, belowAt, frees, Run, nil, len, low, row, width, under, first, marks, belows, treeText}
 use Rattle.cells.specs.declared.Below.{Below}
 use Rattle.cells.specs.Planted.{Deep}
-use Rattle.cells.specs.States.{State, Rows, Held}
+use Rattle.cells.specs.States.{State, Rows, TreeHeld}
 use Rattle.cells.proofs.From.{low-first}
 use Rattle.cells.proofs.State.{st-length, both-past, both-back}
 use Rattle.cells.proofs.Middle.{Rest, done, next, join, count, Mid, mid-wide, run-word}
@@ -77,7 +77,7 @@ module _ {ws : List ℕ} {d k h c a b big : ℕ} {q : List ℕ} (o : Opened ws d
   open-lt = omega (arith, o .wide, o .at-k, st-length (both-past a b q Whole (o .p) _ whole-wide (o .state)))
 
   -- what stands below the location
-  pub open-held : Held ws (belowAt ws k) c (b + under (o .p)) (o .n) Before (o .u)
+  pub open-held : TreeHeld ws (belowAt ws k) c (b + under (o .p)) (o .n) Before (o .u)
   unfolding join
   open-held = record {
     top = rw (run-word (o .p) b _ _ (o .l) _ (o .state) k 2 (o .at-k), run-word (o .p) b _ _ (o .l) _ (o .state) k 3 (o .at-k));
@@ -89,17 +89,17 @@ module _ {ws : List ℕ} {d k h c a b big : ℕ} {q : List ℕ} (o : Opened ws d
     freed-back : State ws' c (b + under (o .p)) a q (row c Whole a (belows c (o .p) b (frees (b + under (o .p)) (width (o .u) + under (o .u) + o .n))))
     freed-back = both-back a b q Whole (o .p) _ whole-wide s
 
-    freed-next : word ws' k 1 ≡ first c (o .p) a .down
+    freed-next : cellWord ws' k 1 ≡ first c (o .p) a .down
     unfolding join
     freed-next = run-word (o .p) b _ _ (o .l) _ freed-back k 1 (o .at-k) ∙ low-first c (o .p) a b d (o .deep) (o .left)
 
     pub freed-room : at k 1 < length ws'
     freed-room = omega (arith, open-lt, s .tot)
 
-    pub freed-less : left-of c (word ws' k 1) < left-of c k
+    pub freed-less : left-of c (cellWord ws' k 1) < left-of c k
     freed-less = rw (freed-next, o .at-k) (first-less c (o .p) a d (o .deep) (o .left) (omega (arith, open-lt, o .at-k)) (s .most))
 
-    pub freed : Going ws' d (word ws' k 1) h c a b q big
+    pub freed : Going ws' d (cellWord ws' k 1) h c a b q big
     unfolding count
     freed = record {
       n = width (o .u) + under (o .u) + o .n;
@@ -113,7 +113,7 @@ module _ {ws : List ℕ} {d k h c a b big : ℕ} {q : List ℕ} (o : Opened ws d
     }
 
 -- the walk starts
-pub going : {ws : List ℕ} {d : ℕ} {k : Below} {c a n : ℕ} {q : List ℕ} {t : Tree ℕ} → Deep t d → Held ws k c a n q t → 0 < d → Going ws d (k .down) (k .down) c a (a + width t) q (under t + n)
+pub going : {ws : List ℕ} {d : ℕ} {k : Below} {c a n : ℕ} {q : List ℕ} {t : Tree ℕ} → Deep t d → TreeHeld ws k c a n q t → 0 < d → Going ws d (k .down) (k .down) c a (a + width t) q (under t + n)
 unfolding join count
 going {ws} {d} {k} {c} {a} {n} {q} {t} p h l = record {
   n = n;
@@ -153,7 +153,7 @@ ran-all {ws} {ws'} {h} {c} {a} {q} t n r s =
     rw e at s
 
 -- where no field is left nothing is to be freed
-pub free-none : {ws : List ℕ} {d : ℕ} {k : Below} {c a n : ℕ} {q : List ℕ} {t : Tree ℕ} → Deep t d → Held ws k c a n q t → d ≡ 0 → State ws c a a q (frees a (width t + under t + n))
+pub free-none : {ws : List ℕ} {d : ℕ} {k : Below} {c a n : ℕ} {q : List ℕ} {t : Tree ℕ} → Deep t d → TreeHeld ws k c a n q t → d ≡ 0 → State ws c a a q (frees a (width t + under t + n))
 unfolding Deep marks row belows under width
 free-none {a = a} {n = n} {t = names r} p h w = let y : 0 + 0 + n ≡ n = omega arith in let z : a + 0 + 0 ≡ a = omega arith in rw y (rw z at (h .state))
 free-none {t = stop} p h w = absurd (omega (arith, p))

@@ -8,7 +8,7 @@ use native.Mathlib.Omega.{arith}
 use lib.ListN.{length, getD, take, drop, set, length-drop, drop-of-length-le, take-append-drop}
 use lib.Seq.{take-all, drop-at, length-take-le, take-set-le, drop-set-add, getD-drop}
 use borrow.Rule.Slice.PartMut.{midOf, postOf, putMid, take-put}
-use Rattle.cells.specs.Text.{at, word}
+use Rattle.cells.specs.Text.{at, cellWord}
 use Rattle.cells.specs.declared.Below.{Below}
 use Rattle.cells.specs.States.{firstFree, Lays, Hangs, Laid}
 
@@ -43,7 +43,7 @@ hangs-at b ws i j k x e f = record {
 }
 
 -- the end of a cell of the part, and its first word
-pub end-at : (b : ℕ) (ws : List ℕ) (k : ℕ) → getD ws (b + (2 + 8 * k)) 0 ≡ word (drop b ws) k 0
+pub end-at : (b : ℕ) (ws : List ℕ) (k : ℕ) → getD ws (b + (2 + 8 * k)) 0 ≡ cellWord (drop b ws) k 0
 end-at b ws k = rw add-zero (sym (getD-drop b ws (2 + 8 * k) 0))
 
 pub first-at : (b : ℕ) (ws : List ℕ) → getD ws b 0 ≡ firstFree (drop b ws)

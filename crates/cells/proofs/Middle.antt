@@ -6,7 +6,7 @@ use Prim.Native.Nat.{ℕ, _+_, _*_}
 use native.Mathlib.Omega.{arith}
 use lib.ListN.{getD, set}
 use Rattle.model.specs.Rules.{Tree}
-use Rattle.cells.specs.Text.{word, cell, frees, Run, snoc, len, low, row, width, under, marks, belows}
+use Rattle.cells.specs.Text.{cellWord, cell, frees, Run, snoc, len, low, row, width, under, marks, belows}
 use Rattle.cells.specs.declared.Below.{Below}
 use Rattle.cells.specs.States.{State}
 use Rattle.cells.proofs.Text.{row-app, row-length, marks-len}
@@ -70,6 +70,6 @@ mid-wide c a b p l h = omega (arith, len-join (marks c p b) l, marks-len c p b)
 
 -- a word of the first cell behind p's
 pub run-word : {ws : List ℕ} {c x a : ℕ} {q : List ℕ} (p : Tree ℕ) (b e : ℕ) (d : Below) (l : Rest) (r : List ℕ) → State ws c x a q (row c (join (snoc (marks c p b) e d) l) a r) → (k j : ℕ) → k ≡ a + width p
-    → word ws k j ≡ getD (cell e (low c (marks c p b) a) d (onward (marks c p b) l a r)) j 0
+    → cellWord ws k j ≡ getD (cell e (low c (marks c p b) a) d (onward (marks c p b) l a r)) j 0
 run-word {ws} {c} {x} {a} p b e d l r s k j h =
     st-word s k j (8 * len (marks c p b) + j) (omega (arith, marks-len c p b)) ∙ row-get c (marks c p b) e d l a r j

@@ -9,7 +9,7 @@ use Rattle.model.specs.Rules.{Tree, names, stop, loc, cells}
 use Rattle.cells.specs.Text.{onlyDown, frees, row, width, under, first, marks, belows, part}
 use Rattle.cells.specs.declared.Below.{Below}
 use Rattle.cells.specs.Planted.{Deep, Planted}
-use Rattle.cells.specs.States.{State, Held}
+use Rattle.cells.specs.States.{State, TreeHeld}
 use Rattle.cells.proofs.Text.{cells-sum, part-length}
 
 -- a link says all of where a chain is
@@ -20,7 +20,7 @@ top-only c stop a d h p = refl
 top-only c (loc e u t) a d h p = refl
 
 -- the tree of a part stands from cell 0 on
-pub part-held : {ws : List ℕ} {c d : ℕ} (p : Planted ws c d) → Held ws (onlyDown (getD ws 1 0)) c 0 (c - cells (p .t)) (first c (p .t) 0 .down ∷ []) (p .t)
+pub part-held : {ws : List ℕ} {c d : ℕ} (p : Planted ws c d) → TreeHeld ws (onlyDown (getD ws 1 0)) c 0 (c - cells (p .t)) (first c (p .t) 0 .down ∷ []) (p .t)
 unfolding part
 part-held {ws} {c} {d} p =
     let t = p .t in
@@ -43,7 +43,7 @@ part-spare {ws} {c} t e l m =
     rw z (record { is = e; len = refl; tot = ap length e ∙ part-length c stop (omega arith); most = m })
 
 -- once it is built and the link leads to it
-pub part-planted : {ws : List ℕ} {h : Below} {c : ℕ} {t : Tree ℕ} → Held ws h c 0 (c - cells t) (c ∷ []) t → set ws 1 (h .down) ≡ part c t
+pub part-planted : {ws : List ℕ} {h : Below} {c : ℕ} {t : Tree ℕ} → TreeHeld ws h c 0 (c - cells t) (c ∷ []) t → set ws 1 (h .down) ≡ part c t
 unfolding part
 part-planted {ws} {h} {c} {t} b =
     let z : 0 + width t + under t ≡ cells t = omega (arith, cells-sum t) in

@@ -5,7 +5,7 @@ use mathlib.Core.List.{List, [], _++_}
 use Prim.Native.Nat.{ℕ, _+_, _<_}
 use native.Mathlib.Omega.{arith}
 use lib.ListN.{length, set}
-use Rattle.cells.specs.Text.{at, word, onlyDown, cell, frees, Run, nil, snoc, len, low, row}
+use Rattle.cells.specs.Text.{at, cellWord, onlyDown, cell, frees, Run, nil, snoc, len, low, row}
 use Rattle.cells.specs.declared.Below.{Below}
 use Rattle.cells.specs.States.{firstFree, wrote, State, Rows}
 use Rattle.cells.proofs.Text.{row-app, row-length, frees-cons}
@@ -13,7 +13,7 @@ use Rattle.cells.proofs.State.{st-head, st-length, st-word, st-start, s
 
 -- the words once the first cell of the free chain is taken
 abbrev pub took : List ℕ → List ℕ
-took ws = set ws 0 (word ws (firstFree ws) 1)
+took ws = set ws 0 (cellWord ws (firstFree ws) 1)
 
 -- the words once cell k is given back
 abbrev pub gave : List ℕ → ℕ → List ℕ
@@ -93,7 +93,7 @@ module _ {ws : List ℕ} {c k e m : ℕ} {d : Below} {q r : List ℕ} (s : State
   pub back-less : firstFree (gave ws k) < firstFree ws
   back-less = omega (arith, st-head s, st-head back)
 
-pub given : {ws : List ℕ} {k c a big : ℕ} {q : List ℕ} (o : Last ws k c a q big) → Giving (gave ws k) (word ws k 1) c a q big
+pub given : {ws : List ℕ} {k c a big : ℕ} {q : List ℕ} (o : Last ws k c a q big) → Giving (gave ws k) (cellWord ws k 1) c a q big
 given {ws} {k} {c} {a} {big} {q} o =
     let f = frees k (1 + o .n) in
     let s = st-undo a q (row c (o .s) a []) (row c (o .s) a f) (rw (← frees-cons k (1 + o .n) (o .n) refl) at (back (o .state))) (row-app c (o .s) a f) (omega (arith, o .at-k, row-length c (o .s) a [])) in

@@ -7,7 +7,7 @@ use native.Mathlib.Omega.{arith}
 use lib.ListN.{length, getD, set, length-set, length-append}
 use lib.Seq.{getD-append-add}
 use Rattle.model.specs.Rules.{Tree}
-use Rattle.cells.specs.Text.{at, word, Run, len, row, under, belows}
+use Rattle.cells.specs.Text.{at, cellWord, Run, len, row, under, belows}
 use Rattle.cells.specs.States.{firstFree, State}
 use Rattle.cells.proofs.Text.{row-app, row-length, both-app, belows-length}
 
@@ -26,7 +26,7 @@ module _ {ws : List ℕ} {c x a : ℕ} {q r : List ℕ} (s : State ws c x a q r)
   pub st-length : 8 * a + length r ≡ 8 * c
   st-length = omega (arith, s .tot, s .len, simp length-append at (ap length (s .is)))
 
-  pub st-word : (k j i : ℕ) → 8 * k + j ≡ 8 * a + i → word ws k j ≡ getD r i 0
+  pub st-word : (k j i : ℕ) → 8 * k + j ≡ 8 * a + i → cellWord ws k j ≡ getD r i 0
   st-word k j i e = ap (λ l. getD l (at k j) 0) (s .is) ∙ getD-add (x ∷ q) r i (at k j) (omega (arith, s .len))
 
   -- the free chain begins elsewhere

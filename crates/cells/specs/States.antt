@@ -81,13 +81,13 @@ pub record SomeRows (ws : List ℕ) (h c : ℕ) : Type 0 where
   pub rows : Rows ws h c a n q s
 
 -- the tree t stands from cell a on, a cell above it says h, and then n free cells
-pub record Held (ws : List ℕ) (h : Below) (c a n : ℕ) (q : List ℕ) (t : Tree ℕ) : Type 0 where
+pub record TreeHeld (ws : List ℕ) (h : Below) (c a n : ℕ) (q : List ℕ) (t : Tree ℕ) : Type 0 where
   pub top : h ≡ first c t a
   pub state : State ws c (a + width t + under t) a q (treeText c t a (frees (a + width t + under t) n))
 
 -- from ws to ws' the tree t is built in the first free cells
 abbrev pub Builds : List ℕ → List ℕ → Below → ℕ → Tree ℕ → Type 0
-Builds ws ws' h c t = (a n : ℕ) (q : List ℕ) → State ws c a a q (frees a (width t + under t + n)) → Held ws' h c a n q t
+Builds ws ws' h c t = (a n : ℕ) (q : List ℕ) → State ws c a a q (frees a (width t + under t + n)) → TreeHeld ws' h c a n q t
 
 -- the same behind the rules, which stay
 pub record Built (base : ℕ) (ws ws' : List ℕ) (h : Below) (c : ℕ) (t : Tree ℕ) : Type 0 where
@@ -109,7 +109,7 @@ pub record Narrows (rules sets sets' : List ℕ) (n r field v : ℕ) : Type 0 wh
 
 -- from ws to ws' the cells of the tree over d fields of which a cell above it says h become free
 abbrev pub Drops : List ℕ → List ℕ → ℕ → Below → ℕ → Type 0
-Drops ws ws' d h c = (a n : ℕ) (q : List ℕ) (t : Tree ℕ) → Deep t d → Held ws h c a n q t → State ws' c a a q (frees a (width t + under t + n))
+Drops ws ws' d h c = (a n : ℕ) (q : List ℕ) (t : Tree ℕ) → Deep t d → TreeHeld ws h c a n q t → State ws' c a a q (frees a (width t + under t + n))
 
 pub record SomeHeld (ws : List ℕ) (d : ℕ) (h : Below) (c : ℕ) : Type 0 where
   pub a : ℕ
@@ -117,7 +117,7 @@ pub record SomeHeld (ws : List ℕ) (d : ℕ) (h : Below) (c : ℕ) : Type 0 whe
   pub q : List ℕ
   pub t : Tree ℕ
   pub deep : Deep t d
-  pub held : Held ws h c a n q t
+  pub held : TreeHeld ws h c a n q t
 
 -- below the location at cell k stands a tree over one field less
 pub record SomeLoc (ws : List ℕ) (d k c : ℕ) : Type 0 where

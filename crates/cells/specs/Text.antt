@@ -11,12 +11,12 @@ abbrev pub at : ℕ → ℕ → ℕ
 at k f = 2 + 8 * k + f
 
 -- word f of cell k
-abbrev pub word : List ℕ → ℕ → ℕ → ℕ
-word ws k f = getD ws (at k f) 0
+abbrev pub cellWord : List ℕ → ℕ → ℕ → ℕ
+cellWord ws k f = getD ws (at k f) 0
 
 -- what cell k says is below it
 abbrev pub belowAt : List ℕ → ℕ → Below
-belowAt ws k = record { down = word ws k 2; side = word ws k 3 }
+belowAt ws k = record { down = cellWord ws k 2; side = cellWord ws k 3 }
 
 -- what is below a cell where nothing stands beside that
 abbrev pub onlyDown : ℕ → Below

@@ -5,7 +5,7 @@ ghost use Prim.Native.Nat.{_+_, _*_, _≤_, _<_, _-_};
 ghost use lib.ListN.{length, set, take, drop};
 ghost use Rattle.model.specs.Rules.{stop, ends as endsOf};
 ghost use Rattle.rows.specs.Rows.{fieldAt, treeAt, firstOf};
-ghost use Rattle.cells.specs.Text.{at, word, belowAt, onlyDown, part};
+ghost use Rattle.cells.specs.Text.{at, cellWord, belowAt, onlyDown, part};
 ghost use Rattle.cells.specs.Planted.{Planted, Plantable};
 ghost use Rattle.cells.specs.States.{firstFree, wrote, zeros, Spare, Lays, Hangs, Laid, Narrows, Buildable, Built, SomeRows, Gives, SomeHeld, SomeLoc, Drops};
 
@@ -18,7 +18,7 @@ pub struct Below {
 // Word f of cell k.
 fn word_of(words: &[u32], k: u32, f: usize) -> u32
     requires { ⌜ at k f < length (now words) ⌝ }
-    ensures { λ r. ⌜ r ≡ word (now (words .entry)) k f ⌝ }
+    ensures { λ r. ⌜ r ≡ cellWord (now (words .entry)) k f ⌝ }
 {
     words[2 + 8 * (k as usize) + f]
 }
@@ -59,7 +59,7 @@ fn write_below(words: &mut [u32], base: usize, k: u32, below: Below)
 // The end of cell k, where the part begins at base.
 fn end_of(words: &[u32], base: usize, k: u32) -> u32
     requires { ⌜ base + at k 0 < length (now words) ⌝ }
-    ensures { λ r. ⌜ r ≡ word (drop base (now (words .entry))) k 0 ⌝ }
+    ensures { λ r. ⌜ r ≡ cellWord (drop base (now (words .entry))) k 0 ⌝ }
 {
     let i = base + (2 + 8 * (k as usize));
     words[i]
@@ -68,7 +68,7 @@ fn end_of(words: &[u32], base: usize, k: u32) -> u32
 // Takes the first cell off the free chain.
 fn take_cell(words: &mut [u32]) -> u32
     requires { ⌜ at (firstFree (now words)) 1 < length (now words) ⌝ }
-    ensures { λ r. ⌜ (r ≡ firstFree (now (words .entry))) × (now (words .exit) ≡ set (now (words .entry)) 0 (word (now (words .entry)) (firstFree (now (words .entry))) 1)) ⌝ }
+    ensures { λ r. ⌜ (r ≡ firstFree (now (words .entry))) × (now (words .exit) ≡ set (now (words .entry)) 0 (cellWord (now (words .entry)) (firstFree (now (words .entry))) 1)) ⌝ }
 {
     let k = words[0];
     let next = word_of(words, k, 1);
@@ -115,7 +115,7 @@ pub fn clear(words: &mut [u32], c: u32)
 // Takes a cell and makes a run of one end of it, with nothing below.
 fn build_one(words: &mut [u32], base: usize, c: u32, end: u32) -> u32
     requires { ⌜ (base ≤ length (now words)) × Spare (drop base (now words)) c 1 ⌝ }
-    ensures { λ r. ⌜ Laid base (now (words .entry)) (now (words .exit)) r c (end ∷ []) × (word (drop base (now (words .exit))) r 0 ≡ end) ⌝ }
+    ensures { λ r. ⌜ Laid base (now (words .entry)) (now (words .exit)) r c (end ∷ []) × (cellWord (drop base (now (words .exit))) r 0 ≡ end) ⌝ }
 {
     let part = &mut words[base..];
     let k = take_cell(part);

@@ -18,7 +18,7 @@ use Rattle.table.proofs.Edits.{at-stands}
 use Rattle.table.proofs.Place.{ahead-all}
 use Rattle.layout.specs.Store.{headText, cellsIn, tableOf, roomFor, passes, holding, unless, startAnswer, startWords, insertSays, insertWords, deleteSays, deleteWords}
 use Rattle.layout.specs.Inner.{frontText}
-use Rattle.layout.proofs.Parts.{head-of}
+use Rattle.layout.proofs.Parts.{head-of, rows-slice}
 use Rattle.layout.proofs.Sound.{sound, count-is}
 use Rattle.layout.proofs.Passed.{sound-room, sound-within, sound-most}
 
@@ -66,20 +66,16 @@ deleted k sh ws n e = by-test (passes k ws)
     (λ h. absurd (let z : 0 ≡ 9 = e ∙ rw h in omega arith))
 
 -- THE ROWS AS A SLICE: what is decided of them is decided of the table
-module _ (k : Kind) (ws : List ℕ) (E : ℕ) (f : E ≡ k .head + rowWords k) where
-  rows-slice : take (E - k .head) (drop (k .head) ws) ≡ take (rowWords k) (drop (k .head) ws)
-  rows-slice = let z : E - k .head ≡ rowWords k = omega arith in ap (λ m. take m (drop (k .head) ws)) z
+module _ (k : Kind) (ws : List ℕ) (E : ℕ) (f : E ≡ k .head + rowWords k) (h : passes k ws ≡ true) where
+  pub insert-says : (r : Rule) (v x p : ℕ)
+      → (x ≡ insertAnswer k (cellsIn ws) (tableIn k (getD ws 1 0) (take (E - k .head) (drop (k .head) ws))) r) × (x ≡ 0 → p ≡ ahead v (tableIn k (getD ws 1 0) (take (E - k .head) (drop (k .head) ws)) .rules))
+      → (x ≡ insertSays k ws r) × (x ≡ 0 → p ≡ ahead v (tableOf k ws .rules))
+  insert-says r v x p q = let g = rw (rows-slice k ws E f) at q in (rw h (g .0), g .1)
 
-  module _ (h : passes k ws ≡ true) where
-    pub insert-says : (r : Rule) (v x p : ℕ)
-        → (x ≡ insertAnswer k (cellsIn ws) (tableIn k (getD ws 1 0) (take (E - k .head) (drop (k .head) ws))) r) × (x ≡ 0 → p ≡ ahead v (tableIn k (getD ws 1 0) (take (E - k .head) (drop (k .head) ws)) .rules))
-        → (x ≡ insertSays k ws r) × (x ≡ 0 → p ≡ ahead v (tableOf k ws .rules))
-    insert-says r v x p q = let g = rw rows-slice at q in (rw h (g .0), g .1)
-
-    pub delete-says : (v x p : ℕ)
-        → (x ≡ deleteAnswer (tableIn k (getD ws 1 0) (take (E - k .head) (drop (k .head) ws))) v) × (x ≡ 0 → p ≡ ahead v (tableIn k (getD ws 1 0) (take (E - k .head) (drop (k .head) ws)) .rules))
-        → (x ≡ deleteSays k ws v) × (x ≡ 0 → p ≡ ahead v (tableOf k ws .rules))
-    delete-says v x p q = let g = rw rows-slice at q in (rw h (g .0), g .1)
+  pub delete-says : (v x p : ℕ)
+      → (x ≡ deleteAnswer (tableIn k (getD ws 1 0) (take (E - k .head) (drop (k .head) ws))) v) × (x ≡ 0 → p ≡ ahead v (tableIn k (getD ws 1 0) (take (E - k .head) (drop (k .head) ws)) .rules))
+      → (x ≡ deleteSays k ws v) × (x ≡ 0 → p ≡ ahead v (tableOf k ws .rules))
+  delete-says v x p q = let g = rw (rows-slice k ws E f) at q in (rw h (g .0), g .1)
 
 -- a store that fails the check
 pub insert-9 : (k : Kind) (ws : List ℕ) (r : Rule) → passes k ws ≡ false → 9 ≡ insertSays k ws r

@@ -19,7 +19,7 @@ use Rattle.table.proofs.Edits.{rows-long}
 use Rattle.layout.specs.Named.{stored}
 use Rattle.layout.specs.Store.{size, headText, text, rowsOf, partOf, holding}
 use Rattle.layout.specs.Inner.{frontText, Bare, planted}
-use Rattle.layout.proofs.Parts.{head-length, scratch-few}
+use Rattle.layout.proofs.Parts.{head-length, scratch-few, rows-long as rows-in}
 use Rattle.layout.proofs.Passed.{rows-cells}
 
 -- THE TREE PLANTED in the part of the words from the rows on: H is the code's head, E its end of the rows
@@ -33,17 +33,14 @@ module _ (k : Kind) (c : ℕ) (ws : List ℕ) (E : ℕ) (f : E ≡ k .head + row
       ∙ (take-add (rowWords k) (2 + 8 * c) (drop (k .head) ws)
       ∙ ap (λ xs. rowsOf k ws ++ take (2 + 8 * c) xs) (drop-drop (rowWords k) (k .head) ws))
 
-  rows-here : length (rowsOf k ws) ≡ rowWords k
-  rows-here = simp (length-take, length-drop) (omega (arith, bare .long))
-
   base : E - k .head ≡ rowWords k
   base = omega arith
 
   pub mid-rules : take (E - k .head) (take (E + (2 + 8 * c) - k .head) (drop (k .head) ws)) ≡ rowsOf k ws
-  mid-rules = ap₂ take base mid-parts ∙ take-at (rowsOf k ws) (partOf k c ws) (rowWords k) rows-here
+  mid-rules = ap₂ take base mid-parts ∙ take-at (rowsOf k ws) (partOf k c ws) (rowWords k) (rows-in k ws c (bare .long))
 
   pub mid-bare : drop (E - k .head) (take (E + (2 + 8 * c) - k .head) (drop (k .head) ws)) ≡ part c stop
-  mid-bare = ap₂ drop base mid-parts ∙ (drop-at (rowsOf k ws) (partOf k c ws) (rowWords k) rows-here ∙ bare .free)
+  mid-bare = ap₂ drop base mid-parts ∙ (drop-at (rowsOf k ws) (partOf k c ws) (rowWords k) (rows-in k ws c (bare .long)) ∙ bare .free)
 
   pub mid-inside : E - k .head ≤ length (take (E + (2 + 8 * c) - k .head) (drop (k .head) ws))
   mid-inside = simp (length-take, length-drop) (omega (arith, bare .long))
@@ -77,10 +74,6 @@ module _ (k : Kind) (c : ℕ) (ws : List ℕ) (E : ℕ) (f : E ≡ k .head + row
 front-length : (k : Kind) (sh : Shaped k) (c : ℕ) (t : Table) → length (frontText k c t) ≡ k .head + rowWords k
 unfolding frontText
 front-length k sh c t = simp length-append (omega (arith, head-length k sh c (length (t .rules)) [], rows-long k t))
-
--- the part from the links on
-pub part-long-here : (c E : ℕ) (ws : List ℕ) → E + (2 + 8 * c) ≤ length ws → length (take (E + (2 + 8 * c) - E) (drop E ws)) ≡ 2 + 8 * c
-part-long-here c E ws h = simp (length-take, length-drop) (omega arith)
 
 -- the emptied words are as long as they were
 pub still-long : (c E : ℕ) (ws p : List ℕ) → E + (2 + 8 * c) ≤ length ws → c ≤ 65536 → p ≡ part c stop → length (putMid E (E + (2 + 8 * c) - E) ws p) ≡ length ws

@@ -17,7 +17,7 @@ use Rattle.model.proofs.Tests.{never, and-left, and-right, and-both, same-test}
 use Rattle.rows.specs.Rows.{fieldAt, firstOf, treeAt, underAt, Flat}
 use Rattle.rows.proofs.Sets.{tree-none, tree-step}
 use Rattle.rows.proofs.Insert.{back}
-use Rattle.cells.specs.Text.{word, onlyDown, cell, frees, low, row, width, under, first, marks, belows, treeText, part}
+use Rattle.cells.specs.Text.{cellWord, onlyDown, cell, frees, low, row, width, under, first, marks, belows, treeText, part}
 use Rattle.cells.specs.declared.Below.{Below}
 use Rattle.compare.specs.declared.Told.{Told}
 use Rattle.compare.specs.declared.Told.the-variants.{Same, Differs}
@@ -210,7 +210,7 @@ module _ {ws : List ℕ} {c : ℕ} {g : ℕ → Tree ℕ} {es : List ℕ} {k : �
 
     same-end : e ≡ getD es (end - i - 1) 0
     unfolding headIs
-    same-end = rw add-zero at (eqb-true (word ws i 0) (getD es (end - i - 1) 0) (and-left _ _ from-here))
+    same-end = rw add-zero at (eqb-true (cellWord ws i 0) (getD es (end - i - 1) 0) (and-left _ _ from-here))
 
     next : drop (end - i - 1) es ≡ e ∷ post
     next = cons ∙ ap (λ x. x ∷ post) (sym same-end)
@@ -366,7 +366,7 @@ module _ {ws : List ℕ} {c : ℕ} {rules ps : List ℕ} {f n k e : ℕ} (nz : n
 
       covered : ps ≡ keep (covers (fieldAt rules f) (getD ws (2 + 8 * k) 0)) ps
       unfolding headIs
-      covered = let z : getD ws (2 + 8 * k) 0 ≡ e = rw add-zero at (eqb-true (word ws k 0) e (and-left _ _ head-one)) in rw z (sym (l .all))
+      covered = let z : getD ws (2 + 8 * k) 0 ≡ e = rw add-zero at (eqb-true (cellWord ws k 0) e (and-left _ _ head-one)) in rw z (sym (l .all))
 
       pub flat-not : a ≡ Differs → Differs ≡ told ws c k (treeAt rules f n ps)
       flat-not v = compared-not nz start r (omega arith) covered t v

@@ -3,7 +3,7 @@
 use mathlib.Core.Path.{_≡_, refl, sym, ap, _∙_}
 use mathlib.Core.Bool.{true}
 use mathlib.Core.List.{List, [], _∷_}
-use Prim.Native.Nat.{ℕ, _+_, _-_, _*_, _≤_, _<_}
+use Prim.Native.Nat.{ℕ, _+_, _*_, _≤_, _<_}
 use native.Mathlib.Omega.{arith}
 use lib.Dec.{eqb}
 use lib.ListN.{length, getD, drop, length-drop}
@@ -11,8 +11,8 @@ use lib.Seq.{drop-drop, getD-drop}
 use borrow.Author.Tests.{eqb-true, eq-eqb}
 use Rattle.model.specs.Rules.{Tree, names, stop, loc, cells}
 use Rattle.model.proofs.Tests.{and-left, and-right}
-use Rattle.cells.specs.Text.{word, cell, frees, Run, nil, snoc, len, low, row, width, under, first, marks, belows, treeText, part}
-use Rattle.cells.proofs.Text.{row-length, marks-len, belows-length, frees-length, cells-sum}
+use Rattle.cells.specs.Text.{cellWord, cell, Run, nil, snoc, len, low, row, width, under, first, marks, belows, treeText}
+use Rattle.cells.proofs.Text.{row-length, marks-len, belows-length, cells-sum}
 use Rattle.cells.specs.declared.Below.{Below}
 use Rattle.compare.specs.declared.Told.the-variants.{Same, Differs}
 use Rattle.model.specs.Lists.{same}
@@ -25,12 +25,6 @@ pub text-length : (c : ℕ) (t : Tree ℕ) (a : ℕ) (r : List ℕ) → length (
 text-length c t a r =
     let b = a + width t in
     omega (arith, cells-sum t, row-length c (marks c t b) a (belows c t b r), marks-len c t b, belows-length c t b r)
-
--- words that are the part of a tree have room for it
-pub part-fits : (ws : List ℕ) (c : ℕ) (t : Tree ℕ) → same ws (part c t) ≡ true → length ws ≡ 2 + 8 * c → cells t ≤ c
-unfolding part
-part-fits ws c t h l =
-    omega (arith, ap length (same-true ws (part c t) h), text-length c t 0 (frees (cells t) (c - cells t)), frees-length (cells t) (c - cells t))
 
 -- one cell
 module _ (ws : List ℕ) where
@@ -47,7 +41,7 @@ module _ (ws : List ℕ) where
   pub cell-here : (k e n : ℕ) (d : Below) (r : List ℕ) → from ws k ≡ cell e n d r → Cell k e n d
   cell-here k e n d r h = h ∙ ap (cell e n d) (cell-rest k e n d r h)
 
-  word-from : (k j : ℕ) → word ws k j ≡ getD (from ws k) j 0
+  word-from : (k j : ℕ) → cellWord ws k j ≡ getD (from ws k) j 0
   word-from k j = sym (getD-drop (2 + 8 * k) ws j 0)
 
   module _ (k e n : ℕ) (d : Below) (h : Cell k e n d) where
@@ -76,21 +70,21 @@ module _ (ws : List ℕ) where
   pub cell-of : (c k e n : ℕ) (d : Below) → Room ws c → k < c → headIs ws k e n ≡ true → restIs ws k d ≡ true → Cell k e n d
   unfolding headIs restIs
   cell-of c k e n d r l h g =
-      let g1 = and-right (eqb (word ws k 2) (d .down)) _ g in
-      let g2 = and-right (eqb (word ws k 3) (d .side)) _ g1 in
-      let g3 = and-right (eqb (word ws k 4) 0) _ g2 in
-      let g4 = and-right (eqb (word ws k 5) 0) _ g3 in
-      let is : (j v : ℕ) → eqb (word ws k j) v ≡ true → getD (from ws k) j 0 ≡ v = λ j v t. sym (word-from k j) ∙ eqb-true (word ws k j) v t in
+      let g1 = and-right (eqb (cellWord ws k 2) (d .down)) _ g in
+      let g2 = and-right (eqb (cellWord ws k 3) (d .side)) _ g1 in
+      let g3 = and-right (eqb (cellWord ws k 4) 0) _ g2 in
+      let g4 = and-right (eqb (cellWord ws k 5) 0) _ g3 in
+      let is : (j v : ℕ) → eqb (cellWord ws k j) v ≡ true → getD (from ws k) j 0 ≡ v = λ j v t. sym (word-from k j) ∙ eqb-true (cellWord ws k j) v t in
       split (from ws k) (omega (arith, length-drop (2 + 8 * k) ws, r .size))
       ∙ rw (
         is 0 e (and-left _ _ h),
-        is 1 n (and-right (eqb (word ws k 0) e) _ h),
+        is 1 n (and-right (eqb (cellWord ws k 0) e) _ h),
         is 2 (d .down) (and-left _ _ g),
         is 3 (d .side) (and-left _ _ g1),
         is 4 0 (and-left _ _ g2),
         is 5 0 (and-left _ _ g3),
         is 6 0 (and-left _ _ g4),
-        is 7 0 (and-right (eqb (word ws k 6) 0) _ g4),
+        is 7 0 (and-right (eqb (cellWord ws k 6) 0) _ g4),
         from-next k,
       )
 

@@ -8,7 +8,7 @@ use lib.Dec.{ltb, eqb}
 use lib.ListN.{length, drop}
 use Rattle.model.specs.Lists.{same}
 use Rattle.model.specs.Rules.{Tree, cells}
-use Rattle.cells.specs.Text.{word, onlyDown, first, treeText}
+use Rattle.cells.specs.Text.{cellWord, onlyDown, first, treeText}
 use Rattle.cells.specs.declared.Below.{Below}
 use Rattle.compare.specs.declared.Told.{Told}
 use Rattle.compare.specs.declared.Told.the-variants.{Same, Differs}
@@ -33,11 +33,11 @@ told ws c k t = answer (same (from ws k) (treeText c t k (from ws (k + cells t))
 
 -- the first two words of cell k: its end and its next; and the other six: what is below it, and zeros
 unfoldable pub headIs : List ℕ → ℕ → ℕ → ℕ → Bool
-headIs ws k e n = eqb (word ws k 0) e && eqb (word ws k 1) n
+headIs ws k e n = eqb (cellWord ws k 0) e && eqb (cellWord ws k 1) n
 
 unfoldable pub restIs : List ℕ → ℕ → Below → Bool
 restIs ws k b =
-    eqb (word ws k 2) (b .down) && (eqb (word ws k 3) (b .side) && (eqb (word ws k 4) 0 && (eqb (word ws k 5) 0 && (eqb (word ws k 6) 0 && eqb (word ws k 7) 0))))
+    eqb (cellWord ws k 2) (b .down) && (eqb (cellWord ws k 3) (b .side) && (eqb (cellWord ws k 4) 0 && (eqb (cellWord ws k 5) 0 && (eqb (cellWord ws k 6) 0 && eqb (cellWord ws k 7) 0))))
 
 -- The run of the ends es, lowest first, as a chain has them, stands from cell k on: the highest in cell k. Its last cell, or c where there is none:
 unfoldable pub before : ℕ → ℕ → List ℕ → ℕ

@@ -15,10 +15,10 @@ use Rattle.model.proofs.Limits.{from-within}
 use Rattle.rows.specs.Rows.{treeAt}
 use Rattle.table.specs.Rows.{ruleIn, tableIn, places, ahead}
 use Rattle.table.proofs.Laws.{rules-length, rule-right}
-use Rattle.layout.specs.Inner.{Held}
+use Rattle.layout.specs.Inner.{TableHeld}
 use Rattle.layout.proofs.Lent.{lent-cells}
 
-module _ (k : Kind) (n c : ℕ) (rows row : List ℕ) (d : Held k n rows) (lr : length row ≡ 2 + 2 * length (k .tops)) where
+module _ (k : Kind) (n c : ℕ) (rows row : List ℕ) (d : TableHeld k n rows) (lr : length row ≡ 2 + 2 * length (k .tops)) where
   abbrev T : Table
   T = tableIn k n rows
 
@@ -68,7 +68,7 @@ module _ (k : Kind) (n c : ℕ) (rows row : List ℕ) (d : Held k n rows) (lr : 
               into-6 t = let y = leb-false _ c (sym w ∙ not-true q t) in sym (tail c ∙ rw (lt-ltb c (cellsOf k (withRule R T)) (omega (arith, new-cells))))
 
 -- DELETE
-module _ (k : Kind) (n x : ℕ) (rows : List ℕ) (d : Held k n rows) where
+module _ (k : Kind) (n x : ℕ) (rows : List ℕ) (d : TableHeld k n rows) where
   pub from-1 : 65534 < x → 1 ≡ deleteAnswer (tableIn k n rows) x
   from-1 l = rw (lt-ltb 65534 x l)
 

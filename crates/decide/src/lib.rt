@@ -8,7 +8,7 @@ ghost use Rattle.model.specs.Rules.{cells};
 ghost use Rattle.model.specs.Table.{insertAnswer, deleteAnswer};
 ghost use Rattle.rows.specs.Rows.{treeAt, Scratch};
 ghost use Rattle.table.specs.Rows.{kindOf, ruleIn, tableIn, ahead, places as placesOf};
-ghost use Rattle.layout.specs.Inner.{Held};
+ghost use Rattle.layout.specs.Inner.{TableHeld};
 use table::Shape;
 
 // What an edit decides: its answer, and with 0 how many rules stand before the rule that it puts in or takes out.
@@ -70,7 +70,7 @@ pub fn insert_into(
     sets: &mut [u16],
     ends: &mut [u32],
 ) -> Decision
-    requires { ⌜ Held (kindOf (now tops) shape) n (now rows) × (c ≤ 65536) × (length (now row) ≡ 2 + 2 * length (now tops)) × Scratch (suc (shape .most)) (length (now tops)) (now sets) (now ends) ⌝ }
+    requires { ⌜ TableHeld (kindOf (now tops) shape) n (now rows) × (c ≤ 65536) × (length (now row) ≡ 2 + 2 * length (now tops)) × Scratch (suc (shape .most)) (length (now tops)) (now sets) (now ends) ⌝ }
     ensures { λ r. ⌜ (r .answer ≡ insertAnswer (kindOf (now (tops .entry)) shape) c (tableIn (kindOf (now (tops .entry)) shape) n (now (rows .entry))) (ruleIn (length (now (tops .entry))) (now (row .entry)) 0)) × (r .answer ≡ 0 → r .place ≡ ahead (getD (now (row .entry)) 0 0) (tableIn (kindOf (now (tops .entry)) shape) n (now (rows .entry)) .rules)) ⌝ }
 {
     let number = row[0];
@@ -105,7 +105,7 @@ pub fn insert_into(
 
 // What a delete of a number answers, where the rows hold a table of n rules.
 pub fn delete_from(rows: &[u32], n: u32, number: u32, tops: &[u32], shape: Shape) -> Decision
-    requires { ⌜ Held (kindOf (now tops) shape) n (now rows) ⌝ }
+    requires { ⌜ TableHeld (kindOf (now tops) shape) n (now rows) ⌝ }
     ensures { λ r. ⌜ (r .answer ≡ deleteAnswer (tableIn (kindOf (now (tops .entry)) shape) n (now (rows .entry))) number) × (r .answer ≡ 0 → r .place ≡ ahead number (tableIn (kindOf (now (tops .entry)) shape) n (now (rows .entry)) .rules)) ⌝ }
 {
     if 65534 < number {

@@ -2,17 +2,17 @@
 -- Assumes nothing.
 use mathlib.Core.Path.{_≡_, refl, sym, ap, _∙_}
 use mathlib.Core.Logic.{_⊎_, inl, inr, ⊎-elim, _≢_}
-use mathlib.Core.Bool.{Bool, true, false, cond, not}
+use mathlib.Core.Bool.{Bool, true, false, cond, not, _||_}
 use mathlib.Core.List.{List}
 use Prim.Native.Nat.{ℕ, _*_, _≤_, _<_}
 use native.Mathlib.Omega.{arith}
 use native.Mathlib.Nat.{zero-add}
 use lib.Dec.{ltb, leb, eqb}
 use lib.ListN.{length, getD, drop}
-use borrow.Author.Tests.{ltb-true, ltb-false, leb-true, leb-false, eqb-true, eqb-false, eq-eqb, ne-eqb, not-true, not-false}
+use borrow.Author.Tests.{lt-ltb, ltb-true, ltb-false, leb-true, leb-false, eqb-true, eqb-false, eq-eqb, ne-eqb, not-true, not-false}
 use Rattle.model.specs.Lists.{In}
 use Rattle.model.specs.Rules.{rangesRight}
-use Rattle.model.specs.Table.{Kind, Rule, Table, Shaped, fields, ruleRight, packetRight, stands, withRule, cellsOf, insertAnswer, deleteAnswer}
+use Rattle.model.specs.Table.{Kind, Rule, Table, Shaped, fields, ruleRight, packetRight, stands, withRule, cellsOf, insertAnswer, deleteAnswer, placeAnswer}
 use Rattle.model.specs.Ipv4.{ipv4, ipv4-shaped}
 use Rattle.model.proofs.Tests.{by-test, never}
 use Rattle.model.proofs.UpTo.{length-upTo}
@@ -20,8 +20,8 @@ use Rattle.model.proofs.Limits.{standing, not-standing}
 use Rattle.header.specs.declared.Packet.{Packet}
 use Rattle.header.specs.declared.Header.the-variants.{Values}
 use Rattle.header.specs.Header.{headerOf}
-use Rattle.header.specs.Facts.{Refused, unreadable-when, within-tops}
-use Rattle.layout.specs.Store.{size, cellsIn, tableOf, roomFor, passes, unless, checked, startAnswer, insertSays, deleteSays, readSays, readGives, zeroRule, cellsSays, cellsGives}
+use Rattle.header.specs.Facts.{Faulty, unreadable-when, within-tops}
+use Rattle.layout.specs.Store.{size, cellsIn, tableOf, roomFor, passes, unless, checked, startAnswer, insertSays, deleteSays, readSays, readGives, placeSays, placeGives, zeroRule, cellsSays, cellsGives}
 use Rattle.lookup.specs.declared.Found.{Found}
 use Rattle.lookup.specs.Walk.{refused, lookupIn, lookupValues, lookupPacket}
 use Rattle.demands.specs.Calls.{Passes, fieldCount, lowAt, highAt, topAt, NoRoom, AboveTop, valuesIn, Bytes, lookup}
@@ -95,6 +95,14 @@ module _ (k : Kind) where
       line (ltb 65534 n) 1 _ (ltb-true 65534 n) (λ f p. omega (arith, ltb-false 65534 n f))
       (on-line (stands n (t .rules)) 4 0 (λ f p. not-standing n (t .rules) f (p .0) (p .1) (p .2)) (λ e p. p (standing n (t .rules) e)) refl)
 
+  place-lines : (t : Table) (p : ℕ) → Refuses 4 ((p ≡ 0) ⊎ (length (t .rules) < p)) done (placeAnswer t p)
+  place-lines t p =
+      let n = length (t .rules) in
+      line (eqb p 0 || ltb n p) 4 0
+      (λ e. by-test (eqb p 0) (λ z. inl (eqb-true p 0 z)) (λ z. inr (ltb-true n p (rw z at e))))
+      (λ e q. by-test (eqb p 0) (λ z. never (rw z at e)) (λ z. ⊎-elim (λ y. eqb-false p 0 z y) (λ l. never (rw (z, lt-ltb n p l) at e)) q))
+      refl
+
   -- what a start and the edits keep
   spares : (c a : ℕ) (new ws : List ℕ) → (a ≡ 0 → (t : Table) × Leaves k ws (unless a new ws) c t) → Spares k c a ws (unless a new ws)
   spares c a new ws h =
@@ -107,6 +115,9 @@ module _ (k : Kind) where
   -- what a refused read and count give
   read-zeros : (ws : List ℕ) (n : ℕ) → readSays k ws n ≢ 0 → readGives k ws n ≡ zeroRule k
   read-zeros ws n h = rw (ne-eqb (readSays k ws n) 0 h)
+
+  rule-at-zeros : (ws : List ℕ) (p : ℕ) → placeSays k ws p ≢ 0 → placeGives k ws p ≡ zeroRule k
+  rule-at-zeros ws p h = rw (ne-eqb (placeSays k ws p) 0 h)
 
   cells-zeros : (ws : List ℕ) → cellsSays k ws ≢ 0 → cellsGives k ws ≡ 0
   cells-zeros ws h = go (passes k ws) h
@@ -163,9 +174,9 @@ module _ (ws : List ℕ) where
     readable-nine : Bytes bytes → (p : Packet) → headerOf bytes ≡ Values p → Refuses 9 (Undecided ipv4 ws (valuesIn p)) done (lookupPacket ws bytes .answer)
     readable-nine b p e = rw (readable-is ws bytes p e ∙ right-in ipv4 ws (valuesIn p) (tops-right p (within-tops bytes p b e))) (nine-line ipv4 ipv4-shaped ws (valuesIn p) refl)
 
-    packet-lines : Bytes bytes → Refuses 7 (Refused bytes) Nine (lookupPacket ws bytes .answer)
+    packet-lines : Bytes bytes → Refuses 7 (Faulty bytes) Nine (lookupPacket ws bytes .answer)
     packet-lines b =
-        by-header (Refuses 7 (Refused bytes) Nine (lookupPacket ws bytes .answer)) bytes
+        by-header (Refuses 7 (Faulty bytes) Nine (lookupPacket ws bytes .answer)) bytes
         (λ e. refuses (unreadable-when bytes .0 e) (ap answerIn (unreadable-7 ws bytes e)))
         (λ p e. goes-on (λ r. let z = unreadable-when bytes .1 r in let y : _≡_ {A = ℕ} 0 1 = cc in omega arith) (readable-nine b))
 
@@ -183,6 +194,8 @@ demand1 =
       read = λ ws n h. rw (ne-eqb n 65535 h) (check-line ipv4 ws _ (delete-lines ipv4 (tableOf ipv4 ws) n));
       read-default = λ ws. check-line ipv4 ws 0 refl;
       read-zeros = read-zeros ipv4;
+      rule-at = λ ws p. check-line ipv4 ws _ (place-lines ipv4 (tableOf ipv4 ws) p);
+      rule-at-zeros = rule-at-zeros ipv4;
       cells = λ ws. check-line ipv4 ws 0 refl;
       cells-zeros = cells-zeros ipv4;
       lookup-answer = λ ws p. lookup-lines ipv4 s ws (valuesIn p) refl;

@@ -2,20 +2,20 @@
 -- Assumes nothing.
 use mathlib.Core.Path.{_≡_, refl, sym, ap, subst, _∙_}
 use mathlib.Core.Logic.{_⊎_, inl, inr, ⊎-elim, _↔_, _≢_}
-use mathlib.Core.Bool.{Bool, true, false, cond, _||_}
-use mathlib.Core.List.{List, [], _∷_}
-use Prim.Native.Nat.{ℕ, _≤_}
+use mathlib.Core.Bool.{Bool, true, false, cond}
+use mathlib.Core.List.{List}
+use Prim.Native.Nat.{ℕ, suc, _-_, _≤_, _<_}
 use native.Mathlib.Omega.{arith}
 use lib.Dec.{ltb, eqb}
 use lib.ListN.{length, getD}
-use borrow.Author.Tests.{eqb-true, eq-eqb}
+use borrow.Author.Tests.{ltb-false, le-ltb, eqb-true, eqb-false, eq-eqb, ne-eqb}
 use Rattle.model.specs.Lists.{In}
-use Rattle.model.specs.Table.{Kind, Rule, Table, Shaped, defaultRule, winnerOf, packetRight, stands, ruleAt, deleteAnswer, readAnswer}
+use Rattle.model.specs.Table.{Kind, Rule, Table, Shaped, defaultRule, winnerOf, packetRight, stands, deleteAnswer, readAnswer, placeAnswer}
 use Rattle.model.specs.Ipv4.{ipv4, ipv4-shaped}
 use Rattle.model.proofs.Tests.{by-test, never}
 use Rattle.model.proofs.UpTo.{upTo-is}
-use Rattle.model.proofs.Keep.{in-left, in-right}
-use Rattle.model.proofs.Limits.{distinct}
+use Rattle.model.proofs.Keep.{in-left, in-right, in-getD, at-place}
+use Rattle.model.proofs.Limits.{from-within, distinct, not-standing, rising-places, rule-in, rule-none}
 use Rattle.model.proofs.Decide.{default-cells, winner-in, winner-holds, winner-least}
 use Rattle.model.proofs.Edits.{from-added, in-added, from-removed, in-removed, delete-fewer}
 use Rattle.header.specs.declared.Packet.{Packet}
@@ -24,29 +24,15 @@ use Rattle.header.specs.Header.{headerOf}
 use Rattle.header.specs.Facts.{WithinTops, within-tops}
 use Rattle.ipv4.specs.declared.Rule.{Rule as Given}
 use Rattle.ipv4.specs.Rule.{five, given}
-use Rattle.layout.specs.Store.{cellsIn, tableOf, startAnswer, startWords, insertSays, insertWords, deleteSays, deleteWords, readSays, readGives, cellsGives}
+use Rattle.layout.specs.Store.{cellsIn, tableOf, startAnswer, startWords, insertSays, insertWords, deleteSays, deleteWords, readSays, readGives, placeSays, placeGives, cellsGives}
 use Rattle.lookup.specs.Walk.{lookupValues, lookupPacket}
 use Rattle.demands.specs.Calls.{Passes, rulesIn, defaultIn, everyIn, fieldCount, valuesIn, Bytes, lookup}
-use Rattle.demands.specs.Demand2.{Names, Edited, Fresh, AllEnds, Demand2}
+use Rattle.demands.specs.Demand2.{Names, Edited, Fresh, Listed, AllEnds, Demand2}
 use Rattle.demands.proofs.Held.{Leaves, right, in-use, checked-0, start-leaves, insert-leaves, delete-leaves}
 use Rattle.demands.proofs.Fields.{all-held, held-all}
 use Rattle.demands.proofs.Packets.{tops-right, readable-is}
 use Rattle.demands.proofs.Decided.{lookup-is}
 use Rattle.demands.proofs.Tally.{tally-same}
-
--- the rule of a number that stands
-rule-there : (d : Rule) (n : ℕ) (rs : List Rule) → stands n rs ≡ true → In (ruleAt d n rs) rs × (ruleAt d n rs .number ≡ n)
-rule-there d n [] h = never (sym h)
-rule-there d n (r ∷ rs) h = go (rule-there d n rs) (eqb (r .number) n) refl h
-  where
-    go : (stands n rs ≡ true → In (ruleAt d n rs) rs × (ruleAt d n rs .number ≡ n)) → (b : Bool) → eqb (r .number) n ≡ b → (b || stands n rs) ≡ true
-        → In (cond b r (ruleAt d n rs)) (r ∷ rs) × (cond b r (ruleAt d n rs) .number ≡ n)
-    go ih true q e = (inl refl, eqb-true (r .number) n q)
-    go ih false q e = (inr (ih e .0), ih e .1)
-
-none-there : (d : Rule) (n : ℕ) (rs : List Rule) → stands n rs ≡ false → ruleAt d n rs ≡ d
-none-there d n [] h = refl
-none-there d n (r ∷ rs) h = by-test (eqb (r .number) n) (λ q. never (rw q at h)) (λ q. rw q (none-there d n rs (rw q at h)))
 
 -- only the default is read that stands in no row of a rule
 only-default : (t : Table) (n : ℕ) → stands n (t .rules) ≡ false → readAnswer t n ≡ 0 → n ≡ 65535
@@ -115,8 +101,36 @@ module _ (k : Kind) (s : Shaped k) where
       let d = defaultRule k (t .action) in
       rw (eq-eqb (readSays k ws n) 0 h)
       (by-test (stands n (t .rules))
-      (λ e. let z = rule-there d n (t .rules) e in (in-left (t .rules) _ _ (z .0), z .1))
-      (λ e. rw (none-there d n (t .rules) e) (default-in ws, sym (only-default t n e (checked-0 k s ws (readAnswer t n) h .1)))))
+      (λ e. let z = rule-in d n (t .rules) e in (in-left (t .rules) _ _ (z .0), z .1))
+      (λ e. rw (rule-none d n (t .rules) (not-standing n (t .rules) e)) (default-in ws, sym (only-default t n e (checked-0 k s ws (readAnswer t n) h .1)))))
+
+  -- the rules by their places
+  module _ (ws : List ℕ) where
+    abbrev R : List Rule
+    R = tableOf k ws .rules
+
+    placed-at : (p : ℕ) → placeSays k ws p ≡ 0 → (0 < p) × (p ≤ length R) × (placeGives k ws p ≡ getD R (p - 1) (defaultRule k (tableOf k ws .action)))
+    placed-at p h =
+        let a : placeAnswer (tableOf k ws) p ≡ 0 = checked-0 k s ws (placeAnswer (tableOf k ws) p) h .1 in
+        by-test (eqb p 0)
+        (λ z. absurd (let y : 4 ≡ 0 = rw z at a in omega arith))
+        (λ z. by-test (ltb (length R) p)
+        (λ l. absurd (let y : 4 ≡ 0 = rw (z, l) at a in omega arith))
+        (λ l. (omega (arith, eqb-false p 0 z), ltb-false (length R) p l, rw (eq-eqb (placeSays k ws p) 0 h))))
+
+    listed : Listed k ws
+    listed = record {
+      one-of = λ p h. let a = placed-at p h in rw (a .2) (in-getD R (p - 1) _ (omega (arith, a .0, a .1)));
+      rising = λ p q h g l.
+          let a = placed-at p h in
+          let b = placed-at q g in
+          rw (a .2, b .2) (rising-places 0 R (from-within k (tableOf k ws) (right k s ws (checked-0 k s ws (placeAnswer (tableOf k ws) p) h .0)) .rising) (p - 1) (q - 1) _ (omega (arith, a .0)) (omega (arith, b .0, b .1)));
+      all = λ h r m.
+          let t = at-place R (defaultRule k (tableOf k ws .action)) r m in
+          let e : placeSays k ws (suc (t .0)) ≡ 0 = rw (h, ne-eqb (suc (t .0)) 0 (λ z. omega arith), le-ltb (length R) (suc (t .0)) (omega (arith, t .1))) in
+          let z : suc (t .0) - 1 ≡ t .0 = omega arith in
+          (suc (t .0), e, placed-at (suc (t .0)) e .2 ∙ ap (λ i. getD R i (defaultRule k (tableOf k ws .action))) z ∙ t .2);
+    }
 
 -- THE LIBRARY'S RULES as structs: five numbers are read of each array, which has no more
 five-one : (xs ys : List ℕ) → length xs ≡ fieldCount ipv4 → length ys ≡ fieldCount ipv4 → five xs ≡ five ys → xs ≡ ys
@@ -148,5 +162,6 @@ demand2 =
       start-cells = started-cells ipv4 ipv4-shaped;
       delete-cells = deleted-cells ipv4 ipv4-shaped;
       read = read-right ipv4 ipv4-shaped;
+      rule-at = listed ipv4 ipv4-shaped;
       read-one = one-struct;
     }

@@ -13,7 +13,7 @@ use Rattle.model.specs.Lists.{In, Sub, keep}
 use Rattle.model.specs.Table.{Kind, Rule, Table, Shaped, numberOf, defaultRule, everyRule, packetRight, withRule, without}
 use Rattle.model.specs.Ipv4.{ipv4, ipv4-shaped}
 use Rattle.model.proofs.Tests.{by-test}
-use Rattle.model.proofs.Keep.{in-keep, length-keep, in-left, in-right}
+use Rattle.model.proofs.Keep.{in-keep, length-keep, in-left, in-right, at-place}
 use Rattle.model.proofs.Limits.{from-within, from-every}
 use Rattle.model.proofs.Decide.{winner-in}
 use Rattle.model.proofs.Edits.{in-added, in-removed}
@@ -31,12 +31,7 @@ use Rattle.demands.proofs.Decided.{lookup-is}
 use Rattle.demands.proofs.Tally.{by-look}
 use Rattle.demands.proofs.Readings.{set-long, set-here, set-other}
 
--- LISTS: what stands in one stands at a place of it, and what is mapped stands in the mapped list
-at-place : (xs : List ℕ) (x : ℕ) → In x xs → (i : ℕ) × (i < length xs) × (getD xs i 0 ≡ x)
-at-place [] x m = absurd m
-at-place (y ∷ xs) x (inl e) = (0, omega arith, sym e)
-at-place (y ∷ xs) x (inr m) = let t = at-place xs x m in (suc (t .0), omega (arith, t .1), t .2)
-
+-- LISTS: what is mapped stands in the mapped list
 in-map : (rs : List Rule) (r : Rule) → In r rs → In (r .number) (map numberOf rs)
 in-map [] r m = m
 in-map (x ∷ rs) r (inl e) = inl (ap numberOf e)
@@ -55,7 +50,7 @@ Apart (x ∷ xs) = (In x xs → ⊥) × Apart xs
 apart-places : (xs : List ℕ) → ((i j : ℕ) → i < length xs → j < length xs → getD xs i 0 ≡ getD xs j 0 → i ≡ j) → Apart xs
 apart-places [] h = tt
 apart-places (x ∷ xs) h = (
-  λ m. let t = at-place xs x m in omega (arith, h 0 (suc (t .0)) (omega arith) (omega (arith, t .1)) (sym (t .2))),
+  λ m. let t = at-place xs 0 x m in omega (arith, h 0 (suc (t .0)) (omega arith) (omega (arith, t .1)) (sym (t .2))),
   apart-places xs (λ i j a b e. omega (arith, h (suc i) (suc j) (omega arith) (omega arith) e)),
 )
 
@@ -78,11 +73,11 @@ module _ (k : Kind) (s : Shaped k) where
   has-room ws h t l w n m none =
       let used : (i : ℕ) → i < length (t .key) → keyAt t i ≤ 65535 = λ i a. by-test (leb (keyAt t i) 65535) (leb-true _ _) (λ q. absurd (none .1 i a (leb-false _ _ q))) in
       let apart : Apart (n ∷ t .key) = (
-        λ q. let i = at-place (t .key) n q in none .0 (i .0) (i .1) (used (i .0) (i .1), i .2),
+        λ q. let i = at-place (t .key) 0 n q in none .0 (i .0) (i .1) (used (i .0) (i .1), i .2),
         apart-places (t .key) (λ i j a b e. w .once i j a b (used i a) e),
       ) in
       let all : Sub (n ∷ t .key) (map numberOf (everyIn k ws)) = λ x q. ⊎-elim (λ e. subst (λ (y : ℕ). In y (map numberOf (everyIn k ws))) (sym e) m)
-      (λ y. let i = at-place (t .key) x y in subst (λ (z : ℕ). In z (map numberOf (everyIn k ws))) (i .2) (w .ours (i .0) (i .1) (used (i .0) (i .1)))) q in
+      (λ y. let i = at-place (t .key) 0 x y in subst (λ (z : ℕ). In z (map numberOf (everyIn k ws))) (i .2) (w .ours (i .0) (i .1) (used (i .0) (i .1)))) q in
       omega (arith, no-longer (n ∷ t .key) (map numberOf (everyIn k ws)) apart all, length-map (everyIn k ws) numberOf, length-append (rulesIn k ws) (defaultRule k (tableOf k ws .action) ∷ []), from-within k (tableOf k ws) (right k s ws h) .fits)
 
   -- a lookup names a rule of the store

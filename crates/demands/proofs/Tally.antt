@@ -16,7 +16,7 @@ use Rattle.lookup.specs.declared.Found.{Found}
 use Rattle.lookup.specs.Walk.{refused, lookupPacket}
 use Rattle.tally.specs.declared.Tallies.{Tallies}
 use Rattle.tally.specs.declared.Place.{Place}
-use Rattle.tally.specs.Tally.{unused, keyed, placeOf, plus, addedIn, begunIn, talliesWith, placeAnswer, hasPlace, tallyAnswer, talliesLeft}
+use Rattle.tally.specs.Tally.{unused, keyed, placeOf, plus, addedIn, begunIn, talliesWith, slotAnswer, hasPlace, tallyAnswer, talliesLeft}
 use Rattle.tally.proofs.Places.{None, Tells, holds-it, takes-it, no-room, place-told}
 use Rattle.demands.specs.Demand1.{Refuses, refuses, goes-on, done, OnlyAnswer}
 use Rattle.demands.specs.Tally.{packetsAt, bytesAt, HoldsAt, UnusedAt, FirstAt, Nowhere, NoPlace, Places, AddedTo}
@@ -44,13 +44,13 @@ module _ (ws bytes : List ℕ) (t : Tallies) where
   unfolding tallyAnswer talliesLeft
   by-look X before none held new = by-answer (eqb (F .answer) 0) refl
     where
-      by-place : F .answer ≡ 0 → (p : Place) → Tells (F .rule) (t .key) p → X (cond (hasPlace p) F (refused (placeAnswer p))) (talliesWith p (F .rule) (totalLength bytes) t)
+      by-place : F .answer ≡ 0 → (p : Place) → Tells (F .rule) (t .key) p → X (cond (hasPlace p) F (refused (slotAnswer p))) (talliesWith p (F .rule) (totalLength bytes) t)
       by-place e p (holds-it i l n k) = held e i (l, keyed-says _ _ k, none-keyed _ i (t .key) n)
       by-place e p (takes-it i l n free u) = new e (none-keyed _ _ (t .key) n) i (l, ltb-true 65535 _ u, none-unused i (t .key) free)
       by-place e p (no-room n free) = none e (none-keyed _ _ (t .key) n, none-unused _ (t .key) free)
 
       by-answer : (b : Bool) → eqb (F .answer) 0 ≡ b
-          → X (cond b (cond (hasPlace (placeOf (F .rule) (t .key))) F (refused (placeAnswer (placeOf (F .rule) (t .key))))) F) (cond b (talliesWith (placeOf (F .rule) (t .key)) (F .rule) (totalLength bytes) t) t)
+          → X (cond b (cond (hasPlace (placeOf (F .rule) (t .key))) F (refused (slotAnswer (placeOf (F .rule) (t .key))))) F) (cond b (talliesWith (placeOf (F .rule) (t .key)) (F .rule) (totalLength bytes) t) t)
       by-answer true e = by-place (eqb-true _ 0 e) (placeOf (F .rule) (t .key)) (place-told (F .rule) (t .key))
       by-answer false e = before (eqb-false _ 0 e)
 

@@ -1,4 +1,4 @@
--- What the three demands speak of. A store's words are any list of numbers, and so are a packet's bytes. What start, insert, delete, check, read and cells answer and leave is defined in layout/specs/Store.antt, what a lookup answers in lookup/specs/Walk.antt, and what the lookup that counts answers and leaves in tally/specs/Tally.antt: the proof of each of these functions shows that its answer, and every word that it was lent, are what is said there.
+-- What the three demands speak of. A store's words are any list of numbers, and so are a packet's bytes. What start, insert, delete, check, read by number and by place, and cells answer and leave is defined in layout/specs/Store.antt, what a lookup answers in lookup/specs/Walk.antt, and what the lookup that counts answers and leaves in tally/specs/Tally.antt: the proof of each of these functions shows that its answer, and every word that it was lent, are what is said there.
 -- What is said of stores is said of a kind of store. The library's is `ipv4` of model/specs/Ipv4.antt, with five fields.
 -- Assumes nothing: these are definitions.
 use mathlib.Core.Path.{_≡_}

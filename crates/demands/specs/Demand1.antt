@@ -13,10 +13,10 @@ use Rattle.model.specs.Ipv4.{ipv4}
 use Rattle.header.specs.declared.Packet.{Packet}
 use Rattle.header.specs.declared.Header.the-variants.{Values}
 use Rattle.header.specs.Header.{headerOf}
-use Rattle.header.specs.Facts.{Refused}
+use Rattle.header.specs.Facts.{Faulty}
 use Rattle.ipv4.specs.declared.Rule.{Rule as Given}
 use Rattle.ipv4.specs.Rule.{given}
-use Rattle.layout.specs.Store.{size, cellsIn, tableOf, startAnswer, startWords, insertSays, insertWords, deleteSays, deleteWords, readSays, readGives, zeroRule, cellsSays, cellsGives}
+use Rattle.layout.specs.Store.{size, cellsIn, tableOf, startAnswer, startWords, insertSays, insertWords, deleteSays, deleteWords, readSays, readGives, placeSays, placeGives, zeroRule, cellsSays, cellsGives}
 use Rattle.lookup.specs.declared.Found.{Found}
 use Rattle.lookup.specs.Walk.{lookupPacket}
 use Rattle.tally.specs.declared.Tallies.{Tallies}
@@ -79,6 +79,9 @@ pub record Demand1 : Type 0 where
   pub read : (ws : List ℕ) (n : ℕ) → n ≢ 65535 → Refuses 9 (Passes ipv4 ws → ⊥) (Refuses 1 (65534 < n) (Refuses 4 (There ipv4 n ws → ⊥) done)) (readSays ipv4 ws n)
   pub read-default : (ws : List ℕ) → Refuses 9 (Passes ipv4 ws → ⊥) done (readSays ipv4 ws 65535)
   pub read-zeros : (ws : List ℕ) (n : ℕ) → readSays ipv4 ws n ≢ 0 → readGives ipv4 ws n ≡ zeroRule ipv4
+  -- THE RULE AT PLACE p, counted from 1: 9, then 4 where there are fewer rules
+  pub rule-at : (ws : List ℕ) (p : ℕ) → Refuses 9 (Passes ipv4 ws → ⊥) (Refuses 4 ((p ≡ 0) ⊎ (length (rulesIn ipv4 ws) < p)) done) (placeSays ipv4 ws p)
+  pub rule-at-zeros : (ws : List ℕ) (p : ℕ) → placeSays ipv4 ws p ≢ 0 → placeGives ipv4 ws p ≡ zeroRule ipv4
   -- THE CHECK, and the CELLS in use
   pub cells : (ws : List ℕ) → Refuses 9 (Passes ipv4 ws → ⊥) done (cellsSays ipv4 ws)
   pub cells-zeros : (ws : List ℕ) → cellsSays ipv4 ws ≢ 0 → cellsGives ipv4 ws ≡ 0
@@ -87,9 +90,9 @@ pub record Demand1 : Type 0 where
   pub lookup-zeros : (ws : List ℕ) (p : Packet) → lookup ws p .answer ≢ 0 → OnlyAnswer (lookup ws p)
   -- LOOKUP BY A PACKET: 7 exactly when one of document 01's six conditions holds, and then 9 by the values that the header gives
   pub packet-answer : (ws bytes : List ℕ) → Bytes bytes
-      → Refuses 7 (Refused bytes) (λ answer. (p : Packet) → headerOf bytes ≡ Values p → Refuses 9 (Undecided ipv4 ws (valuesIn p)) done answer) (lookupPacket ws bytes .answer)
+      → Refuses 7 (Faulty bytes) (λ answer. (p : Packet) → headerOf bytes ≡ Values p → Refuses 9 (Undecided ipv4 ws (valuesIn p)) done answer) (lookupPacket ws bytes .answer)
   pub packet-zeros : (ws bytes : List ℕ) → lookupPacket ws bytes .answer ≢ 0 → OnlyAnswer (lookupPacket ws bytes)
-  -- "after c cells of one field", over any words: no lookup reads more than c cells in each field
+  -- "after c cells of one field", over any words: no lookup reads more than c cells for each field in all
   pub lookup-reads : (ws : List ℕ) (p : Packet) → lookup ws p .reads ≤ fieldCount ipv4 * cellsIn ws
   pub packet-reads : (ws bytes : List ℕ) → lookupPacket ws bytes .reads ≤ fieldCount ipv4 * cellsIn ws
   -- LOOKUP BY A PACKET WITH TALLIES: the refusals of the lookup by a packet, then "13 when a new number finds no place, after all others"

@@ -3,7 +3,7 @@
 use mathlib.Core.Path.{_≡_}
 use mathlib.Core.Logic.{_⊎_, _↔_, _≢_}
 use mathlib.Core.List.{List, []}
-use Prim.Native.Nat.{ℕ, _≤_}
+use Prim.Native.Nat.{ℕ, _≤_, _<_}
 use lib.ListN.{length}
 use Rattle.model.specs.Lists.{In}
 use Rattle.model.specs.Table.{Kind, Rule, defaultRule}
@@ -14,7 +14,7 @@ use Rattle.header.specs.Header.{headerOf}
 use Rattle.header.specs.Facts.{WithinTops}
 use Rattle.ipv4.specs.declared.Rule.{Rule as Given}
 use Rattle.ipv4.specs.Rule.{given}
-use Rattle.layout.specs.Store.{cellsIn, startAnswer, startWords, insertSays, insertWords, deleteSays, deleteWords, readSays, readGives, cellsGives}
+use Rattle.layout.specs.Store.{cellsIn, startAnswer, startWords, insertSays, insertWords, deleteSays, deleteWords, readSays, readGives, placeSays, placeGives, cellsGives}
 use Rattle.lookup.specs.declared.Found.{Found}
 use Rattle.lookup.specs.Walk.{lookupPacket}
 use Rattle.tally.specs.declared.Tallies.{Tallies}
@@ -50,6 +50,12 @@ pub record Fresh (k : Kind) (c a : ℕ) (after : List ℕ) : Type 0 where
   pub default : defaultIn k after ≡ a
   pub cells : cellsIn after ≡ c
 
+-- the rules of a store that passes by their places, from 1 on: each is one of them, by rising number, and none is left out
+pub record Listed (k : Kind) (ws : List ℕ) : Type 0 where
+  pub one-of : (p : ℕ) → placeSays k ws p ≡ 0 → In (placeGives k ws p) (rulesIn k ws)
+  pub rising : (p q : ℕ) → placeSays k ws p ≡ 0 → placeSays k ws q ≡ 0 → p < q → placeGives k ws p .number < placeGives k ws q .number
+  pub all : Passes k ws → (r : Rule) → In r (rulesIn k ws) → (p : ℕ) × (placeSays k ws p ≡ 0) × (placeGives k ws p ≡ r)
+
 -- the arrays of a rule's struct have an end for each field
 pub record AllEnds (k : Kind) (g : Given) : Type 0 where
   pub lows : length (g .low) ≡ fieldCount k
@@ -75,5 +81,7 @@ pub record Demand2 : Type 0 where
   pub delete-cells : (ws : List ℕ) (n : ℕ) → deleteSays ipv4 ws n ≡ 0 → cellsGives ipv4 (deleteWords ipv4 ws n) ≤ cellsGives ipv4 ws
   -- and a rule that is read is the store's rule of that number
   pub read : (ws : List ℕ) (n : ℕ) → readSays ipv4 ws n ≡ 0 → In (readGives ipv4 ws n) (everyIn ipv4 ws) × (readGives ipv4 ws n .number ≡ n)
+  -- and place by place all rules are read
+  pub rule-at : (ws : List ℕ) → Listed ipv4 ws
   -- A caller gets it as a struct with two arrays of five ends, of which the promise says what rule it is: no second such struct is the same rule
   pub read-one : (g h : Given) → AllEnds ipv4 g → AllEnds ipv4 h → given g ≡ given h → g ≡ h

@@ -4,13 +4,12 @@ ghost use mathlib.Core.Path.{_≡_};
 ghost use Prim.Native.Nat.{_+_, _<_, _≤_};
 ghost use lib.ListN.{length};
 ghost use Rattle.header.specs.Header.{
-  half,
-  word,
   headerLength,
   totalLength,
   hasPorts,
   headerOf,
 };
+use octets::Order;
 
 // A packet's values, in the order of the fields.
 pub struct Packet {
@@ -53,17 +52,17 @@ pub fn read_header(s: &[u8]) -> Header
             return Header::Unreadable;
         }
         return Header::Values(Packet {
-            destination: word_at(s, 16),
-            source: word_at(s, 12),
-            protocol: wide(s[9]),
-            destination_port: half_at(s, behind + 2),
-            source_port: half_at(s, behind),
+            destination: octets::word_at(Order::Big, s, 16),
+            source: octets::word_at(Order::Big, s, 12),
+            protocol: octets::wide(s[9]),
+            destination_port: octets::half_at(Order::Big, s, behind + 2),
+            source_port: octets::half_at(Order::Big, s, behind),
         });
     }
     Header::Values(Packet {
-        destination: word_at(s, 16),
-        source: word_at(s, 12),
-        protocol: wide(s[9]),
+        destination: octets::word_at(Order::Big, s, 16),
+        source: octets::word_at(Order::Big, s, 12),
+        protocol: octets::wide(s[9]),
         destination_port: 0,
         source_port: 0,
     })
@@ -75,7 +74,7 @@ fn has_ports(s: &[u8]) -> bool
     requires { ⌜ 20 ≤ length (now s) ⌝ }
     ensures { λ r. ⌜ r ≡ hasPorts (now (s .entry)) ⌝ }
 {
-    if half_at(s, 6) % 8192 != 0 {
+    if octets::half_at(Order::Big, s, 6) % 8192 != 0 {
         return false;
     }
     if s[9] == 6 {
@@ -89,7 +88,7 @@ fn header_length(s: &[u8]) -> usize
     requires { ⌜ 20 ≤ length (now s) ⌝ }
     ensures { λ r. ⌜ (r ≡ headerLength (now (s .entry))) × (r < 64) ⌝ }
 {
-    (wide(s[0]) % 16 * 4) as usize
+    (octets::wide(s[0]) % 16 * 4) as usize
 }
 
 // The packet's length in bytes, header included, as the header says it.
@@ -105,28 +104,5 @@ pub fn packet_length(s: &[u8]) -> u32
     requires { ⌜ 20 ≤ length (now s) ⌝ }
     ensures { λ r. ⌜ (r ≡ totalLength (now (s .entry))) × (r < 65536) ⌝ }
 {
-    half_at(s, 2)
-}
-
-// The 32-bit number at a place, most significant byte first.
-fn word_at(s: &[u8], at: usize) -> u32
-    requires { ⌜ at + 3 < length (now s) ⌝ }
-    ensures { λ r. ⌜ r ≡ word (now (s .entry)) at ⌝ }
-{
-    half_at(s, at) * 65536 + half_at(s, at + 2)
-}
-
-// The 16-bit number at a place, most significant byte first.
-fn half_at(s: &[u8], at: usize) -> u32
-    requires { ⌜ at + 1 < length (now s) ⌝ }
-    ensures { λ r. ⌜ (r ≡ half (now (s .entry)) at) × (r < 65536) ⌝ }
-{
-    wide(s[at]) * 256 + wide(s[at + 1])
-}
-
-// A byte as a wider number.
-fn wide(b: u8) -> u32
-    ensures { λ r. ⌜ (r ≡ b) × (r < 256) ⌝ }
-{
-    b as u32
+    octets::half_at(Order::Big, s, 2)
 }

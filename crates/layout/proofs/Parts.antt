@@ -63,6 +63,18 @@ module _ (k : Kind) (ws : List ℕ) (c : ℕ) (h : size k c ≤ length ws) where
   pub part-long : length (partOf k c ws) ≡ 2 + 8 * c
   part-long = simp (length-take, length-drop) (omega arith)
 
+-- THE SLICES that the code takes of these words: E is its end of the rows
+module _ (k : Kind) (ws : List ℕ) (E : ℕ) (f : E ≡ k .head + rowWords k) where
+  pub rows-slice : take (E - k .head) (drop (k .head) ws) ≡ rowsOf k ws
+  rows-slice = let z : E - k .head ≡ rowWords k = omega arith in ap (λ m. take m (drop (k .head) ws)) z
+
+  pub part-slice : (c : ℕ) → take (E + (2 + 8 * c) - E) (drop E ws) ≡ partOf k c ws
+  part-slice c = let z : E + (2 + 8 * c) - E ≡ 2 + 8 * c = omega arith in ap₂ (λ m i. take m (drop i ws)) z f
+
+-- the part from the links on is as long as its cells are many
+pub part-here : (c E : ℕ) (ws : List ℕ) → E + (2 + 8 * c) ≤ length ws → length (take (E + (2 + 8 * c) - E) (drop E ws)) ≡ 2 + 8 * c
+part-here c E ws h = simp (length-take, length-drop) (omega arith)
+
 three : (ws : List ℕ) → 3 ≤ length ws → take 3 ws ≡ getD ws 0 0 ∷ getD ws 1 0 ∷ getD ws 2 0 ∷ []
 three [] h = absurd (omega arith)
 three (a ∷ []) h = absurd (omega arith)

@@ -17,9 +17,9 @@ use Rattle.cells.proofs.Text.{deep-tree, row-length, marks-len, belows-length, 
 use Rattle.table.specs.Rows.{rowsText, places}
 use Rattle.layout.specs.Named.{stored}
 use Rattle.layout.specs.Store.{cellsIn, rowsOf, partOf, tableOf, passes}
-use Rattle.layout.specs.Inner.{Held}
+use Rattle.layout.specs.Inner.{TableHeld}
 use Rattle.layout.proofs.Bridge.{stored-cells}
-use Rattle.layout.proofs.Parts.{rows-long, part-long}
+use Rattle.layout.proofs.Parts.{rows-long, part-long, rows-slice, part-slice}
 use Rattle.layout.proofs.Sound.{Sound, sound, Roomy, roomy, count-is}
 
 -- words that are the part of a tree have room for it
@@ -54,7 +54,7 @@ module _ (k : Kind) (sh : Shaped k) (ws : List ℕ) (s : Sound k ws) where
     deep = deep-tree (rowsOf k ws) 0 (length (k .tops)) (places (k .width) (getD ws 1 0));
     fits = sound-fits;
     most = sound-room .most;
-    is = let z : E + (2 + 8 * cellsIn ws) - E ≡ 2 + 8 * cellsIn ws = omega arith in ap₂ (λ m i. take m (drop i ws)) z f ∙ s .tree;
+    is = part-slice k ws E f (cellsIn ws) ∙ s .tree;
   }
 
   -- its cells, and the word that names them
@@ -74,11 +74,10 @@ module _ (k : Kind) (sh : Shaped k) (ws : List ℕ) (s : Sound k ws) where
       ∙ sound-cells
 
 -- the rows of a store that passes hold its table
-pub held : (k : Kind) (sh : Shaped k) (ws : List ℕ) (E : ℕ) → E ≡ k .head + rowWords k → passes k ws ≡ true → Held k (getD ws 1 0) (take (E - k .head) (drop (k .head) ws))
+pub held : (k : Kind) (sh : Shaped k) (ws : List ℕ) (E : ℕ) → E ≡ k .head + rowWords k → passes k ws ≡ true → TableHeld k (getD ws 1 0) (take (E - k .head) (drop (k .head) ws))
 held k sh ws E f h =
     let o = sound k sh ws h in
-    let z : E - k .head ≡ rowWords k = omega arith in
-    rw z (record {
+    rw (rows-slice k ws E f) (record {
       rowed = record { shaped = sh; fit = o .few; whole = rows-long k ws _ (sound-room k sh ws o .long) };
       text = o .rows;
       rising = o .rising;

@@ -3,7 +3,7 @@
 use mathlib.Core.Path.{_≡_, refl, sym, ap, ap₂, _∙_}
 use mathlib.Core.Logic.{_⊎_, inl, inr}
 use mathlib.Core.Bool.{true}
-use mathlib.Core.List.{List, [], _∷_, _++_, map, map-append}
+use mathlib.Core.List.{[], _∷_, _++_, map, map-append}
 use Prim.Native.Nat.{ℕ, zero, suc, _+_, _*_, _≤_, _<_}
 use native.Mathlib.Omega.{arith}
 use lib.Dec.{eqb}
@@ -13,18 +13,12 @@ use Rattle.model.specs.Lists.{In, upTo}
 use Rattle.model.specs.Table.{Kind, Table, Shaped, defaultRule, everyRule, within}
 use Rattle.model.proofs.Tests.{and-left, and-right}
 use Rattle.model.proofs.UpTo.{upTo-is, in-upTo}
-use Rattle.model.proofs.Keep.{from-append}
+use Rattle.model.proofs.Keep.{from-append, in-getD}
 use Rattle.model.proofs.Limits.{from-within}
 use Rattle.rows.specs.Rows.{numberIn, actionIn, lowIn, highIn}
 use Rattle.table.specs.Rows.{noRule, placed, rowsText, ruleIn, tableIn, places}
 use Rattle.table.proofs.Laws.{row-number, row-action, row-low, row-high}
 use Rattle.table.proofs.Edits.{rows-at}
-
--- what stands at a place below the length stands in the list
-pub in-getD : {A : Type 0} (xs : List A) (i : ℕ) (d : A) → i < length xs → In (getD xs i d) xs
-in-getD [] i d h = absurd (omega arith)
-in-getD (x ∷ xs) zero d h = inl refl
-in-getD (x ∷ xs) (suc i) d h = inr (in-getD xs i d (omega arith))
 
 pub map-upTo : {A B : Type 0} (h : A → B) (n : ℕ) (f : ℕ → A) → map h (upTo n f) ≡ upTo n (λ i. h (f i))
 unfolding upTo

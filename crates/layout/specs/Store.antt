@@ -6,7 +6,7 @@ use Prim.Native.Nat.{ℕ, _+_, _-_, _*_}
 use lib.Dec.{leb, eqb}
 use lib.ListN.{length, getD, take, drop, replicate}
 use Rattle.model.specs.Lists.{same}
-use Rattle.model.specs.Table.{Kind, Rule, Table, rowWords, front, within, withRule, without, insertAnswer, deleteAnswer, readAnswer, readRule, cellsOf}
+use Rattle.model.specs.Table.{Kind, Rule, Table, rowWords, front, within, withRule, without, insertAnswer, deleteAnswer, readAnswer, readRule, placeAnswer, placeRule, cellsOf}
 use Rattle.cells.specs.Text.{part}
 use Rattle.table.specs.Rows.{rowsText, tableIn}
 use Rattle.layout.specs.Named.{stored}
@@ -88,6 +88,13 @@ readSays k ws n = checked k ws (readAnswer (tableOf k ws) n)
 
 abbrev pub readGives : Kind → List ℕ → ℕ → Rule
 readGives k ws n = cond (eqb (readSays k ws n) 0) (readRule k (tableOf k ws) n) (zeroRule k)
+
+-- THE RULE AT A PLACE: places are counted from 1, by rising number; zeros with a refusal
+abbrev pub placeSays : Kind → List ℕ → ℕ → ℕ
+placeSays k ws p = checked k ws (placeAnswer (tableOf k ws) p)
+
+abbrev pub placeGives : Kind → List ℕ → ℕ → Rule
+placeGives k ws p = cond (eqb (placeSays k ws p) 0) (placeRule k (tableOf k ws) p) (zeroRule k)
 
 -- CELLS in use, and 0 with a refusal
 abbrev pub cellsSays : Kind → List ℕ → ℕ

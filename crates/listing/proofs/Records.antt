@@ -8,9 +8,10 @@ use native.Mathlib.Omega.{arith}
 use borrow.Author.Tests.{ltb-false}
 use lib.Dec.{ltb, eqb}
 use lib.ListN.{length}
-use Rattle.capture.specs.declared.Order.{Order}
+use Rattle.octets.specs.declared.Order.{Order}
 use Rattle.capture.specs.declared.Next.the-variants.{Edge, Cut, TooLong, Data}
-use Rattle.capture.specs.Pcap.{word, nextOf}
+use Rattle.octets.specs.Octets.{word}
+use Rattle.capture.specs.Pcap.{nextOf}
 
 -- a record header that leads to data says no more
 pub data-small : (o : Order) (s : List ℕ) (n : ℕ) → Data n ≡ nextOf o s → n ≤ 16384

@@ -6,7 +6,7 @@ use mathlib.Core.List.{List}
 use Prim.Native.Nat.{ℕ}
 use lib.Dec.{leb}
 use lib.ListN.{length, take, drop}
-use Rattle.capture.specs.declared.Order.{Order}
+use Rattle.octets.specs.declared.Order.{Order}
 use Rattle.capture.specs.declared.Next.{Next}
 use Rattle.capture.specs.declared.Next.the-variants.{Edge, Cut, TooLong, Data}
 use Rattle.capture.specs.Pcap.{nextOf, Listing, ended, listed, records, after}

@@ -11,8 +11,8 @@ ghost use Rattle.capture.specs.Pcap.{nextOf};
 ghost use Rattle.listing.specs.Lines.{item, lineOf};
 ghost use Rattle.listing.specs.Records.{wantedOf, readOf, lengthOf};
 use capture::Next;
-use capture::Order;
 use lookup::Found;
+use octets::Order;
 
 // What was read of the next record: a record of so many bytes, or the end of the list and how it ends.
 pub enum Read {

@@ -17,7 +17,7 @@ use Rattle.model.proofs.Tests.{by-test, and-left}
 use Rattle.header.specs.declared.Packet.{Packet}
 use Rattle.header.specs.declared.Header.the-variants.{Values, Unreadable}
 use Rattle.header.specs.Header.{headerOf}
-use Rattle.cells.specs.Text.{word}
+use Rattle.cells.specs.Text.{cellWord}
 use Rattle.lookup.specs.declared.Walked.{Walked}
 use Rattle.lookup.specs.declared.Walked.the-variants.{At, Lost}
 use Rattle.layout.specs.Store.{size, cellsIn}
@@ -30,12 +30,12 @@ module _ (w : List ℕ) (c v : ℕ) where
   seek-lost zero k r h = refl
   seek-lost (suc m) k r h = simp (le-ltb k c h)
 
-  pub seek-here : (m k r : ℕ) → 0 < m → k < c → v ≤ getD w (2 + 8 * k) 0 → seekOf w c v m k r ≡ At (word w k 2) (r + 1)
+  pub seek-here : (m k r : ℕ) → 0 < m → k < c → v ≤ getD w (2 + 8 * k) 0 → seekOf w c v m k r ≡ At (cellWord w k 2) (r + 1)
   unfolding seekOf
   seek-here zero k r q h e = absurd (omega arith)
   seek-here (suc m) k r q h e = rw (lt-ltb k c h, add-zero, le-ltb _ v e)
 
-  pub seek-next : (m n k r : ℕ) → m ≡ suc n → k < c → getD w (2 + 8 * k) 0 < v → seekOf w c v m k r ≡ seekOf w c v n (word w k 1) (r + 1)
+  pub seek-next : (m n k r : ℕ) → m ≡ suc n → k < c → getD w (2 + 8 * k) 0 < v → seekOf w c v m k r ≡ seekOf w c v n (cellWord w k 1) (r + 1)
   unfolding seekOf
   seek-next m n k r q h e = rw (q, lt-ltb k c h, add-zero, lt-ltb _ v e)
 
@@ -47,9 +47,9 @@ module _ (w : List ℕ) (c v : ℕ) where
   few : (m k r d n : ℕ) → seekOf w c v m k r ≡ At d n → n ≤ r + m
   unfolding seekOf
   few zero k r d n e = let z : _≡_ {A = ℕ} 0 1 = cc in absurd (omega arith)
-  few (suc m) k r d n e = go (few m (word w k 1) (r + 1) d n) (ltb k c) (ltb (word w k 0) v) e
+  few (suc m) k r d n e = go (few m (cellWord w k 1) (r + 1) d n) (ltb k c) (ltb (cellWord w k 0) v) e
     where
-      go : {s : Walked} → (s ≡ At d n → n ≤ r + 1 + m) → (b b' : Bool) → cond b (cond b' s (At (word w k 2) (r + 1))) Lost ≡ At d n → n ≤ r + suc m
+      go : {s : Walked} → (s ≡ At d n → n ≤ r + 1 + m) → (b b' : Bool) → cond b (cond b' s (At (cellWord w k 2) (r + 1))) Lost ≡ At d n → n ≤ r + suc m
       go ih true true e = omega (arith, ih e)
       go ih true false e = let z : r + 1 ≡ n = cc in omega arith
       go ih false b' e = let z : _≡_ {A = ℕ} 0 1 = cc in absurd (omega arith)

@@ -9,7 +9,7 @@ use Rattle.model.specs.Table.{Kind, packetRight}
 use Rattle.model.specs.Ipv4.{ipv4}
 use Rattle.header.specs.declared.Header.{Header}
 use Rattle.header.specs.Header.{headerOf, answerOf, valuesOf}
-use Rattle.cells.specs.Text.{word}
+use Rattle.cells.specs.Text.{cellWord}
 use Rattle.layout.specs.Store.{cellsIn, partOf, roomFor}
 use Rattle.lookup.specs.declared.Found.{Found}
 use Rattle.lookup.specs.declared.Walked.{Walked}
@@ -20,7 +20,7 @@ unfoldable pub seekOf : List ℕ → ℕ → ℕ → ℕ → ℕ → ℕ → Wal
 seekOf part c v zero k r = Lost
 seekOf part c v (suc n) k r =
     cond (ltb k c)
-    (cond (ltb (word part k 0) v) (seekOf part c v n (word part k 1) (r + 1)) (At (word part k 2) (r + 1)))
+    (cond (ltb (cellWord part k 0) v) (seekOf part c v n (cellWord part k 1) (r + 1)) (At (cellWord part k 2) (r + 1)))
     Lost
 
 -- a walk goes on from where it came, unless it is lost

@@ -96,7 +96,8 @@ module _ {P A : Type 0} (f : Field P A) (v : ℕ) where
       (λ c. simp c (omega (arith, below-insert v (f .high r) (insertBefore (f .low r) (ends f rs)), below-before v (f .low r) (ends f rs), high-not r c)))
       (λ c. simp c (omega (arith, below-insert v (f .high r) (insertBefore (f .low r) (ends f rs)), below-before v (f .low r) (ends f rs), one-most v (f .high r))))
 
-  all-below : (rs : List A) → below v (ends f rs) + length (keep (covers f v) rs) ≤ 2 * length rs
+  -- so of n rules at most two for each are below v or kept
+  pub all-below : (rs : List A) → below v (ends f rs) + length (keep (covers f v) rs) ≤ 2 * length rs
   all-below [] = omega arith
   all-below (r ∷ rs) = omega (arith, one-more r rs, all-below rs)
 

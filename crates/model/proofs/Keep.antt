@@ -1,12 +1,12 @@
--- The part of a list that passes a test.
+-- What stands in a list: the part that passes a test, and places.
 -- Assumes nothing.
-use mathlib.Core.Path.{_≡_, refl}
+use mathlib.Core.Path.{_≡_, refl, sym}
 use mathlib.Core.Logic.{_⊎_, inl, inr, ⊎-elim}
 use mathlib.Core.Bool.{Bool, true, false, cond, _&&_}
 use mathlib.Core.List.{List, [], _∷_, _++_}
-use Prim.Native.Nat.{_≤_}
+use Prim.Native.Nat.{ℕ, zero, suc, _≤_, _<_}
 use native.Mathlib.Omega.{arith}
-use lib.ListN.{length}
+use lib.ListN.{length, getD}
 use Rattle.model.specs.Lists.{In, Sub, Same, keep}
 use Rattle.model.proofs.Tests.{by-test}
 
@@ -72,3 +72,15 @@ module _ {A : Type 0} where
   from-append [] ys x m = inr m
   from-append (y ∷ xs) ys x (inl e) = inl (inl e)
   from-append (y ∷ xs) ys x (inr m) = ⊎-elim (λ (n : In x xs). inl (inr n)) (λ (n : In x ys). inr n) (from-append xs ys x m)
+
+-- what stands at a place below the length stands in the list
+pub in-getD : {A : Type 0} (xs : List A) (i : ℕ) (d : A) → i < length xs → In (getD xs i d) xs
+in-getD [] i d h = absurd (omega arith)
+in-getD (x ∷ xs) zero d h = inl refl
+in-getD (x ∷ xs) (suc i) d h = inr (in-getD xs i d (omega arith))
+
+-- what stands in a list stands at a place of it
+pub at-place : {A : Type 0} (xs : List A) (d x : A) → In x xs → (i : ℕ) × (i < length xs) × (getD xs i d ≡ x)
+at-place [] d x m = absurd m
+at-place (y ∷ xs) d x (inl e) = (0, omega arith, sym e)
+at-place (y ∷ xs) d x (inr m) = let t = at-place xs d x m in (suc (t .0), omega (arith, t .1), t .2)

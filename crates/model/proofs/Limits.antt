@@ -4,15 +4,15 @@ use mathlib.Core.Path.{_≡_, refl, sym, ap, ap₂, _∙_}
 use mathlib.Core.Logic.{_⊎_, inl, inr, ⊎-elim}
 use mathlib.Core.Bool.{true, false}
 use mathlib.Core.List.{List, [], _∷_}
-use Prim.Native.Nat.{ℕ, suc, _≤_}
+use Prim.Native.Nat.{ℕ, zero, suc, _≤_, _<_}
 use native.Mathlib.Omega.{arith}
 use lib.Dec.{leb, eqb}
-use lib.ListN.{length}
-use borrow.Author.Tests.{leb-true, le-leb, eqb-true, eqb-false}
+use lib.ListN.{length, getD}
+use borrow.Author.Tests.{leb-true, le-leb, eqb-true, eqb-false, ne-eqb}
 use Rattle.model.specs.Lists.{In, Sub, Same}
-use Rattle.model.specs.Table.{Kind, Rule, Table, numberOf, defaultRule, everyRule, ruleRight, risingFrom, allRight, within, stands}
+use Rattle.model.specs.Table.{Kind, Rule, Table, numberOf, defaultRule, everyRule, ruleRight, risingFrom, allRight, within, stands, ruleAt}
 use Rattle.model.proofs.Tests.{by-test, never, and-left, and-right, and-both}
-use Rattle.model.proofs.Keep.{from-append}
+use Rattle.model.proofs.Keep.{from-append, in-getD}
 use Rattle.model.proofs.Sets.{Distinct}
 
 -- rising numbers, a rule at a time
@@ -40,6 +40,13 @@ one-number b (x ∷ rs) h r s (inl p) (inl q) e = p ∙ sym q
 one-number b (x ∷ rs) h r s (inl p) (inr n) e = absurd (omega (arith, ap numberOf p, in-rising (suc (x .number)) rs (rises b x rs h .2) s n .0))
 one-number b (x ∷ rs) h r s (inr m) (inl q) e = absurd (omega (arith, ap numberOf q, in-rising (suc (x .number)) rs (rises b x rs h .2) r m .0))
 one-number b (x ∷ rs) h r s (inr m) (inr n) e = one-number (suc (x .number)) rs (rises b x rs h .2) r s m n e
+
+-- and a rule at a later place has a greater one
+pub rising-places : (b : ℕ) (rs : List Rule) → risingFrom b rs ≡ true → (i j : ℕ) (d : Rule) → i < j → j < length rs → getD rs i d .number < getD rs j d .number
+rising-places b [] h i j d l m = absurd (omega arith)
+rising-places b (x ∷ rs) h i zero d l m = absurd (omega arith)
+rising-places b (x ∷ rs) h zero (suc j) d l m = in-rising (suc (x .number)) rs (rises b x rs h .2) (getD rs j d) (in-getD rs j d (omega arith)) .0
+rising-places b (x ∷ rs) h (suc i) (suc j) d l m = rising-places (suc (x .number)) rs (rises b x rs h .2) i j d (omega arith) (omega arith)
 
 -- rules by rising number are given by their set
 pub rising-set : (b c : ℕ) (rs ss : List Rule) → risingFrom b rs ≡ true → risingFrom c ss ≡ true → Same rs ss → rs ≡ ss
@@ -75,6 +82,17 @@ not-standing n [] h r m e = m
 not-standing n (x ∷ rs) h r m e = by-test (eqb (x .number) n)
     (λ t. never (rw t at h))
     (λ t. ⊎-elim (λ (q : r ≡ x). eqb-false (x .number) n t (ap numberOf (sym q) ∙ e)) (λ (k : In r rs). not-standing n rs (rw t at h) r k e) m)
+
+-- the rule of a number: one of the rules where it stands, and else d
+pub rule-in : (d : Rule) (n : ℕ) (rs : List Rule) → stands n rs ≡ true → In (ruleAt d n rs) rs × (ruleAt d n rs .number ≡ n)
+rule-in d n [] s = never (sym s)
+rule-in d n (x ∷ rs) s = by-test (eqb (x .number) n)
+    (λ t. rw t (inl refl, eqb-true (x .number) n t))
+    (λ t. let i = rule-in d n rs (rw t at s) in rw t (inr (i .0), i .1))
+
+pub rule-none : (d : Rule) (n : ℕ) (rs : List Rule) → ((r : Rule) → In r rs → r .number ≡ n → ⊥) → ruleAt d n rs ≡ d
+rule-none d n [] h = refl
+rule-none d n (x ∷ rs) h = rw (ne-eqb (x .number) n (h x (inl refl))) (rule-none d n rs (λ r m. h r (inr m)))
 
 -- a table within the limits
 pub record Within (k : Kind) (rs : List Rule) : Type 0 where

@@ -1,7 +1,7 @@
 -- The tree, so its cells and its walks, the count of reads and the winner depend on the set of rules alone: not on their order, and not on how often one stands in the list. The winner is what its name says.
 -- Assumes nothing.
 use mathlib.Core.Path.{_≡_, refl, ap, ap₂, fun-ext}
-use mathlib.Core.Logic.{_⊎_, inl, inr, ⊎-elim}
+use mathlib.Core.Logic.{inl, inr, ⊎-elim}
 use mathlib.Core.Bool.{Bool, true, false, cond}
 use mathlib.Core.List.{List, [], _∷_}
 use Prim.Native.Nat.{ℕ, _≤_}

@@ -2,13 +2,13 @@
 -- Assumes nothing: these are definitions.
 use mathlib.Core.Bool.{Bool, true, false, cond, not, _&&_, _||_}
 use mathlib.Core.List.{List, [], _∷_, _++_, map}
-use Prim.Native.Nat.{ℕ, suc, _+_, _*_, _≤_, _<_}
+use Prim.Native.Nat.{ℕ, suc, _+_, _-_, _*_, _≤_, _<_}
 use lib.Dec.{ltb, leb, eqb}
 use lib.ListN.{length, getD}
 use Rattle.model.specs.Lists.{keep, least}
 use Rattle.model.specs.Rules.{Field, Tree, tree, cells, winner, readsSum, rangesRight, withinTops}
 
--- A kind of store, all in which stores differ: the top of each field, in order; which field (from 0) is the destination port's, with the source port's behind it; how many rules it takes besides the default; the words of a rule's row; the words before the rows; and the number by which word 2 names the kind.
+-- A kind of store, all in which stores differ: the top of each field, in order; which field (from 0) is the destination port's, with the source port's behind it (and behind both, once packets without ports are told apart, the mark of those: the last fields of every kind); how many rules it takes besides the default; the words of a rule's row; the words before the rows; and the number by which word 2 names the kind.
 pub record Kind : Type 0 where
   pub tops : List ℕ
   pub ports : ℕ
@@ -149,3 +149,11 @@ readAnswer t n = cond (eqb n 65535) 0 (deleteAnswer t n)
 -- the rule that read gives where its answer is 0
 abbrev pub readRule : Kind → Table → ℕ → Rule
 readRule k t n = ruleAt (defaultRule k (t .action)) n (t .rules)
+
+-- What is said of a place in the order of rising numbers, counted from 1: 4 where there are fewer rules; 0, done.
+abbrev pub placeAnswer : Table → ℕ → ℕ
+placeAnswer t p = cond (eqb p 0 || ltb (length (t .rules)) p) 4 0
+
+-- the rule at a place, where the answer is 0
+abbrev pub placeRule : Kind → Table → ℕ → Rule
+placeRule k t p = getD (t .rules) (p - 1) (defaultRule k (t .action))

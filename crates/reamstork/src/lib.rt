@@ -2,8 +2,9 @@
 ghost use mathlib.Core.Path.{_≡_};
 ghost use mathlib.Core.List.{[], _∷_};
 ghost use Rattle.model.specs.Ipv4.{ipv4};
+ghost use Rattle.ipv4.specs.Rule.{given};
 ghost use Rattle.prefix.specs.Prefix.{rangeOf};
-ghost use Rattle.layout.specs.Store.{startAnswer, startWords, insertSays, insertWords, deleteSays, deleteWords, readSays, readGives, cellsSays, cellsGives};
+ghost use Rattle.layout.specs.Store.{startAnswer, startWords, insertSays, insertWords, deleteSays, deleteWords, readSays, readGives, placeSays, placeGives, cellsSays, cellsGives};
 ghost use Rattle.lookup.specs.Walk.{lookupValues, lookupPacket};
 ghost use Rattle.tally.specs.Tally.{tallyAnswer, talliesLeft, cleared, difference};
 ghost use Rattle.scan.specs.Scan.{scanValues};
@@ -77,12 +78,10 @@ pub extern "C" fn reamstork_check(words: &[u32]) -> u32
     if store::check(words) { 0 } else { 9 }
 }
 
-// Reads the rule of a number; the default under 65,535.
-#[no_mangle]
-pub extern "C" fn reamstork_read(words: &[u32], number: u32) -> Reading
-    ensures { λ r. ⌜ (r .answer ≡ readSays ipv4 (now (words .entry)) number) × (ruleRead r ≡ readGives ipv4 (now (words .entry)) number) ⌝ }
+// What was read, for C.
+fn for_c(read: store::Reading) -> Reading
+    ensures { λ r. ⌜ (r .answer ≡ read .answer) × (ruleRead r ≡ given (read .rule)) ⌝ }
 {
-    let read = store::read(words, number);
     let rule = read.rule;
     let low = rule.low;
     let high = rule.high;
@@ -93,6 +92,22 @@ pub extern "C" fn reamstork_read(words: &[u32], number: u32) -> Reading
         low,
         high,
     }
+}
+
+// Reads the rule of a number; the default under 65,535.
+#[no_mangle]
+pub extern "C" fn reamstork_read(words: &[u32], number: u32) -> Reading
+    ensures { λ r. ⌜ (r .answer ≡ readSays ipv4 (now (words .entry)) number) × (ruleRead r ≡ readGives ipv4 (now (words .entry)) number) ⌝ }
+{
+    for_c(store::read(words, number))
+}
+
+// Reads the rule at a place. Places are counted from 1, by rising number.
+#[no_mangle]
+pub extern "C" fn reamstork_rule_at(words: &[u32], place: u32) -> Reading
+    ensures { λ r. ⌜ (r .answer ≡ placeSays ipv4 (now (words .entry)) place) × (ruleRead r ≡ placeGives ipv4 (now (words .entry)) place) ⌝ }
+{
+    for_c(store::rule_at(words, place))
 }
 
 // Counts the cells in use.

@@ -1,43 +1,21 @@
 -- Scratch is enough: for the chain of a field, and under each of its ends for the tree over the next fields, though the ends that are still to come keep their places.
 -- Assumes nothing.
 use mathlib.Core.Path.{_≡_, sym, ap, _∙_}
-use mathlib.Core.Bool.{cond}
 use mathlib.Core.List.{List, [], _∷_}
 use Prim.Native.Nat.{ℕ, zero, suc, _+_, _-_, _*_, _≤_, _<_}
 use native.Mathlib.Nat.{suc-mul, mul-le-mul-left}
 use native.Mathlib.Omega.{arith}
 use native.Mathlib.Numerals.{sub-one}
-use lib.Dec.{ltb, leb}
 use lib.ListN.{length, getD, take, drop, length-drop}
 use lib.Seq.{length-take-le, getD-take, take-take}
 use borrow.Rule.Slice.PartMut.{mid-len}
-use borrow.Author.Tests.{lt-ltb, le-ltb, leb-true}
-use Rattle.model.specs.Lists.{Rising, keep, insert, below}
-use Rattle.model.specs.Rules.{Field, covers, insertBefore, ends as endsOf}
-use Rattle.model.proofs.Tests.{by-test, and-right}
+use borrow.Author.Tests.{lt-ltb}
+use Rattle.model.specs.Lists.{Rising, keep, below}
+use Rattle.model.specs.Rules.{Field, covers, ends as endsOf}
+use Rattle.model.proofs.Bound.{all-below}
 use Rattle.model.proofs.Ends.{ends-rising, length-ends}
 use Rattle.rows.specs.Rows.{Scratch}
 use Rattle.rows.proofs.Insert.{in-at}
-
--- a number that is put in adds one where it is below v, and else none
-abbrev one : ℕ → ℕ → ℕ
-one v x = cond (ltb x v) 1 0
-
-below-cons : (v x : ℕ) (es : List ℕ) → below v (x ∷ es) ≡ below v es + one v x
-below-cons v x es = by-test (ltb x v) (λ q. simp q (omega arith)) (λ q. simp q (omega arith))
-
-below-insert : (v x : ℕ) (es : List ℕ) → below v (insert x es) ≤ below v es + one v x
-below-insert v x [] = omega (arith, below-cons v x [])
-below-insert v x (e ∷ es) = by-test (ltb x e)
-    (λ s. simp s (omega (arith, below-cons v x (e ∷ es))))
-    (λ s. by-test (ltb e x) (λ t. simp (s, t) (omega (arith, below-insert v x es, below-cons v e (insert x es), below-cons v e es))) (λ t. simp (s, t) (omega arith)))
-
-one-most : (v x : ℕ) → one v x ≤ 1
-one-most v x = by-test (ltb x v) (λ q. simp q (omega arith)) (λ q. simp q (omega arith))
-
-below-before : (v l : ℕ) (es : List ℕ) → below v (insertBefore l es) ≤ below v es + 1
-below-before v zero es = omega arith
-below-before v (suc l) es = omega (arith, below-insert v l es, one-most v l)
 
 -- at least i numbers of a rising list are below its i-th
 below-at : (es : List ℕ) (i : ℕ) → Rising es → i < length es → i ≤ below (getD es i 0) es
@@ -46,19 +24,9 @@ below-at (e ∷ es) zero r h = omega arith
 below-at (e ∷ es) (suc i) r h = rw (lt-ltb e (getD es i 0) (r .0 (getD es i 0) (in-at es i (omega arith)))) (omega (arith, below-at es i (r .1) (omega arith)))
 
 module _ {P A : Type 0} (f : Field P A) where
-  -- a rule that covers v adds at most one end below it, what is before its low end; any other at most two
-  all-below : (v : ℕ) (rs : List A) → below v (endsOf f rs) + length (keep (covers f v) rs) ≤ 2 * length rs
-  all-below v [] = omega arith
-  all-below v (r ∷ rs) = by-test (covers f v r)
-      (λ c. let z : one v (f .high r) ≡ 0 = rw (le-ltb (f .high r) v (leb-true v (f .high r) (and-right (leb (f .low r) v) _ c))) in simp c (omega (arith, more, all-below v rs)))
-      (λ c. simp c (omega (arith, more, all-below v rs, one-most v (f .high r))))
-    where
-      more : below v (endsOf f (r ∷ rs)) ≤ below v (endsOf f rs) + 1 + one v (f .high r)
-      more = omega (arith, below-insert v (f .high r) (insertBefore (f .low r) (endsOf f rs)), below-before v (f .low r) (endsOf f rs))
-
-  -- so the i ends before one of them, and the rules that cover it, are together no more than two for each rule
+  -- the i ends before one of them, and the rules that cover it, are together no more than two for each rule
   pub ends-room : (rs : List A) (i : ℕ) → i < length (endsOf f rs) → i + length (keep (covers f (getD (endsOf f rs) i 0)) rs) ≤ 2 * length rs
-  ends-room rs i h = omega (arith, below-at (endsOf f rs) i (ends-rising f rs) h, all-below (getD (endsOf f rs) i 0) rs)
+  ends-room rs i h = omega (arith, below-at (endsOf f rs) i (ends-rising f rs) h, all-below f (getD (endsOf f rs) i 0) rs)
 
 -- THE SCRATCH of n rules over d fields. The products in it:
 apart : (d n : ℕ) → 0 < d → suc d * n ≡ n + n + (d - 1) * n

@@ -1,20 +1,24 @@
 -- The kind that is chosen: what its shape comes to.
 -- Assumes nothing.
-use mathlib.Core.Path.{_≡_, sym, ap, ap₂, _∙_}
+use mathlib.Core.Path.{_≡_, refl, sym, ap, _∙_}
+use mathlib.Core.Bool.{cond}
 use mathlib.Core.List.{List}
 use Prim.Native.Nat.{ℕ, suc, _+_, _-_, _*_, _≤_}
 use native.Mathlib.Omega.{arith}
 use lib.ListN.{length, take, drop}
-use borrow.Author.Tests.{eq-eqb, ne-eqb}
-use Rattle.model.specs.Table.{Kind, Shaped, Rule, rowWords, front, readRule}
+use lib.Dec.{eqb}
+use borrow.Author.Tests.{eq-eqb, ne-eqb, eqb-true, eqb-false}
+use Rattle.model.specs.Table.{Kind, Shaped, Rule, front}
 use Rattle.model.proofs.Tests.{by-test}
-use Rattle.layout.specs.Store.{rowsOf, tableOf, passes, zeroRule, readSays, readGives}
+use Rattle.layout.specs.Inner.{ruleFound}
+use Rattle.layout.specs.Store.{rowsOf, passes, checked, zeroRule}
 use Rattle.model.specs.Ipv4.{ipv4, ipv4-shaped}
 use Rattle.rows.specs.Rows.{Scratch}
+use Rattle.layout.proofs.Parts.{rows-slice}
 use Rattle.layout.proofs.Sound.{sound}
 use Rattle.layout.proofs.Passed.{sound-room}
 use Rattle.table.specs.declared.Shape.{Shape}
-use Rattle.table.specs.Rows.{kindOf}
+use Rattle.table.specs.Rows.{kindOf, ruleIn}
 
 module _ (s : Shape) (e : kindOf (ipv4 .tops) s ≡ ipv4) where
   pub shaped : Shaped (kindOf (ipv4 .tops) s)
@@ -23,24 +27,27 @@ module _ (s : Shape) (e : kindOf (ipv4 .tops) s ≡ ipv4) where
   pub scratch : (sets ends : List ℕ) → length sets ≡ 390 → length ends ≡ 390 → Scratch (suc (s .most)) (length (ipv4 .tops)) sets ends
   scratch sets ends a b = let z : s .most ≡ 64 = ap (λ k. k .most) e in rw z (record { places = omega arith; room = omega arith })
 
--- what reading gives, by the answer of the search
-module _ (k : Kind) (ws : List ℕ) (n a : ℕ) (g : Rule) (e : a ≡ readSays k ws n) where
-  pub read-no : (a ≡ 0 → ⊥) → g ≡ zeroRule k → g ≡ readGives k ws n
-  read-no h f = rw (ne-eqb (readSays k ws n) 0 (λ z. h (e ∙ z))) f
+-- what a search that answered a and found the row at p gives
+module _ (k : Kind) (ws : List ℕ) (a p : ℕ) where
+  pub found-no : (a ≡ 0 → ⊥) → zeroRule k ≡ ruleFound k ws a p
+  found-no h = rw (ne-eqb a 0 h) refl
 
-  pub read-yes : a ≡ 0 → g ≡ readRule k (tableOf k ws) n → g ≡ readGives k ws n
-  read-yes h f = rw (eq-eqb (readSays k ws n) 0 (sym e ∙ h)) f
+  pub found-yes : a ≡ 0 → ruleIn (length (k .tops)) (rowsOf k ws) p ≡ ruleFound k ws a p
+  found-yes h = rw (eq-eqb a 0 h) refl
 
--- a store of which a rule is read passes, so that it has its front
-pub read-passes : (ws : List ℕ) (n : ℕ) → 0 ≡ readSays ipv4 ws n → front ipv4 ≤ length ws
-read-passes ws n e = by-test (passes ipv4 ws)
+-- what a call that looks for a rule gives, by the answer and the row of the search; s is what the call says, and g what is read where it says 0
+module _ (k : Kind) (ws : List ℕ) (a p s : ℕ) (g : Rule) (e : a ≡ s) where
+  pub found-is : (a ≡ 0 → ruleIn (length (k .tops)) (rowsOf k ws) p ≡ g) → ruleFound k ws a p ≡ cond (eqb s 0) g (zeroRule k)
+  found-is h = by-test (eqb a 0)
+      (λ t. let z = eqb-true a 0 t in rw (t, eq-eqb s 0 (sym e ∙ z)) (h z))
+      (λ t. let z = eqb-false a 0 t in rw (t, ne-eqb s 0 (λ q. z (e ∙ q))) refl)
+
+-- a store of which something is said besides 9 passes, so that it has its front
+pub found-front : (ws : List ℕ) (a : ℕ) → 0 ≡ checked ipv4 ws a → front ipv4 ≤ length ws
+found-front ws a e = by-test (passes ipv4 ws)
     (λ h. let w = sound-room ipv4 ipv4-shaped ws (sound ipv4 ipv4-shaped ws h) .long in omega arith)
     (λ h. absurd (let z : 0 ≡ 9 = e ∙ rw h in omega arith))
 
--- the rows as a slice of the words
+-- its rows as a slice of the words
 pub rows-here : (s : Shape) (e : kindOf (ipv4 .tops) s ≡ ipv4) (ws : List ℕ) (E : ℕ) → E ≡ s .head + s .width * suc (s .most) → take (E - s .head) (drop (s .head) ws) ≡ rowsOf ipv4 ws
-rows-here s e ws E f =
-    let a : s .head ≡ ipv4 .head = ap (λ (k : Kind). k .head) e in
-    let b : s .width * suc (s .most) ≡ rowWords ipv4 = ap rowWords e in
-    let z : E - s .head ≡ rowWords ipv4 = omega arith in
-    ap₂ (λ m i. take m (drop i ws)) z a
+rows-here s e ws E f = rows-slice (kindOf (ipv4 .tops) s) ws E f ∙ ap (λ k. rowsOf k ws) e

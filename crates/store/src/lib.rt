@@ -1,9 +1,14 @@
-// The calls on a store, for the kinds that there are: start, check, insert, delete, read, cells in use. Every promise is one equation for the answer and for every lent word, whatever the words hold.
+// The calls on a store, for the kinds that there are: start, check, insert, delete, read by number and by place, cells in use. Every promise is one equation for the answer and for every lent word, whatever the words hold.
 ghost use mathlib.Core.Path.{_≡_};
+ghost use Prim.Native.Nat.{_≤_};
+ghost use lib.ListN.{length};
+ghost use Rattle.model.specs.Table.{front};
 ghost use Rattle.model.specs.Ipv4.{ipv4};
 ghost use Rattle.ipv4.specs.Rule.{given};
-ghost use Rattle.layout.specs.Store.{passes, startAnswer, startWords, insertSays, insertWords, deleteSays, deleteWords, zeroRule, readSays, readGives, cellsSays, cellsGives};
+ghost use Rattle.layout.specs.Inner.{ruleFound};
+ghost use Rattle.layout.specs.Store.{passes, startAnswer, startWords, insertSays, insertWords, deleteSays, deleteWords, zeroRule, readSays, readGives, placeSays, placeGives, cellsSays, cellsGives};
 use audit::Count;
+use audit::Place;
 use ipv4::Rule;
 
 // The store check.
@@ -86,23 +91,55 @@ fn refused(answer: u32) -> Reading
     }
 }
 
-// Reads the rule of a number; the default under 65,535.
-pub fn read(words: &[u32], number: u32) -> Reading
-    ensures { λ r. ⌜ (r .answer ≡ readSays ipv4 (now (words .entry)) number) × (given (r .rule) ≡ readGives ipv4 (now (words .entry)) number) ⌝ }
+// The rule of the row that was found, or the refusal.
+fn rule_found(words: &[u32], place: Place) -> Reading
+    requires { ⌜ (place .answer ≡ 0 → front ipv4 ≤ length (now words)) ⌝ }
+    ensures { λ r. ⌜ (r .answer ≡ place .answer) × (given (r .rule) ≡ ruleFound ipv4 (now (words .entry)) (place .answer) (place .row)) ⌝ }
 {
-    let mut sets = [0u16; ipv4::SCRATCH];
-    let mut ends = [0u32; ipv4::SCRATCH];
-    let shape = ipv4::shape();
-    let place = audit::find(words, number, &ipv4::TOPS, shape, &mut sets, &mut ends);
     if place.answer != 0 {
         return refused(place.answer);
     }
+    let shape = ipv4::shape();
     let head = shape.head as usize;
     let from = table::rows_end(shape) as usize;
     Reading {
         answer: 0,
         rule: ipv4::rule_at(&words[head..from], place.row),
     }
+}
+
+// Reads the rule of a number; the default under 65,535.
+pub fn read(words: &[u32], number: u32) -> Reading
+    ensures { λ r. ⌜ (r .answer ≡ readSays ipv4 (now (words .entry)) number) × (given (r .rule) ≡ readGives ipv4 (now (words .entry)) number) ⌝ }
+{
+    let mut sets = [0u16; ipv4::SCRATCH];
+    let mut ends = [0u32; ipv4::SCRATCH];
+    let place = audit::find(
+        words,
+        number,
+        &ipv4::TOPS,
+        ipv4::shape(),
+        &mut sets,
+        &mut ends,
+    );
+    rule_found(words, place)
+}
+
+// Reads the rule at a place. Places are counted from 1, by rising number.
+pub fn rule_at(words: &[u32], place: u32) -> Reading
+    ensures { λ r. ⌜ (r .answer ≡ placeSays ipv4 (now (words .entry)) place) × (given (r .rule) ≡ placeGives ipv4 (now (words .entry)) place) ⌝ }
+{
+    let mut sets = [0u16; ipv4::SCRATCH];
+    let mut ends = [0u32; ipv4::SCRATCH];
+    let found = audit::find_at(
+        words,
+        place,
+        &ipv4::TOPS,
+        ipv4::shape(),
+        &mut sets,
+        &mut ends,
+    );
+    rule_found(words, found)
 }
 
 // Counts the cells in use.

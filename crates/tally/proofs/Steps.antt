@@ -17,10 +17,10 @@ use Rattle.lookup.specs.Walk.{refused, lookupHeader, lookupPacket}
 use Rattle.tally.specs.declared.Tallies.{Tallies}
 use Rattle.tally.specs.declared.Place.{Place}
 use Rattle.tally.specs.declared.Place.the-variants.{Held, New, Full}
-use Rattle.tally.specs.Tally.{placeOf, hasPlace, placeAnswer, talliesWith, tallyAnswer, talliesLeft}
+use Rattle.tally.specs.Tally.{placeOf, hasPlace, slotAnswer, talliesWith, tallyAnswer, talliesLeft}
 
 -- where a number has no place, the answer is 13
-placeless : (p : Place) → hasPlace p ≡ false → placeAnswer p ≡ 13
+placeless : (p : Place) → hasPlace p ≡ false → slotAnswer p ≡ 13
 placeless (Held place) h = never h
 placeless (New place) h = never h
 placeless Full h = refl

@@ -53,20 +53,20 @@ talliesWith (Held place) number bytes t = addedIn place bytes t
 talliesWith (New place) number bytes t = addedIn place bytes (begunIn place number t)
 talliesWith Full number bytes t = t
 
-abbrev pub placeAnswer : Place → ℕ
-placeAnswer (Held place) = 0
-placeAnswer (New place) = 0
-placeAnswer Full = 13
+abbrev pub slotAnswer : Place → ℕ
+slotAnswer (Held place) = 0
+slotAnswer (New place) = 0
+slotAnswer Full = 13
 
 abbrev pub hasPlace : Place → Bool
-hasPlace p = eqb (placeAnswer p) 0
+hasPlace p = eqb (slotAnswer p) 0
 
 -- THE LOOKUP BY A PACKET THAT COUNTS: what it answers, "13 when a new number finds no place, after all others"; and the record that it leaves, as it was where the lookup is refused
 unfoldable pub tallyAnswer : List ℕ → List ℕ → Tallies → Found
 tallyAnswer words packet t =
     let f = lookupPacket words packet in
     let p = placeOf (f .rule) (t .key) in
-    cond (eqb (f .answer) 0) (cond (hasPlace p) f (refused (placeAnswer p))) f
+    cond (eqb (f .answer) 0) (cond (hasPlace p) f (refused (slotAnswer p))) f
 
 unfoldable pub talliesLeft : List ℕ → List ℕ → Tallies → Tallies
 talliesLeft words packet t =

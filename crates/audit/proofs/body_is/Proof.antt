@@ -4,8 +4,8 @@ use borrow.Author.Needs.{needs}
 use Prim.Native.Nat.{suc}
 use native.Mathlib.Omega.{arith}
 use Rattle.table.specs.Rows.{kindOf}
-use Rattle.layout.proofs.Parts.{scratch-few}
-use Rattle.audit.proofs.Laws.{body-wrong, body-right, part-here}
+use Rattle.layout.proofs.Parts.{scratch-few, part-here}
+use Rattle.audit.proofs.Laws.{body-wrong, body-right}
 use Rattle.audit.proofs.body_is.Statement.{statement}
 use Rattle.audit.proofs.body_is.Tie as tie
 

@@ -12,7 +12,7 @@ use Rattle.model.specs.Rules.{ends, Tree}
 use Rattle.rows.specs.Rows.{fieldAt, treeAt, underAt, Flat}
 use Rattle.rows.proofs.Sets.{tree-step}
 use Rattle.rows.proofs.Room.{set-fits, sets-fit, ends-fit, scratch-on, scratch-under}
-use Rattle.cells.specs.Text.{at, word, onlyDown, frees, width, under}
+use Rattle.cells.specs.Text.{at, cellWord, onlyDown, frees, width, under}
 use Rattle.cells.specs.States.{firstFree, hung, State, Spare, Builds}
 use Rattle.cells.specs.declared.Below.{Below}
 use Rattle.cells.proofs.State.{st-head}
@@ -163,7 +163,7 @@ module _ (t : ℕ) where
 
   below-turn : (v : Narrowed) → let l = turn-at v .before in let g = begun-loop l .args in let w = v .narrowed in let sets = w .last .1 .1 .0 in let rules = take (g .base) (l .before .before .before .before .before .before .build-run .last .0) in
       treeAt (take (g .base) (l .loop .words)) (g .field + 1) (g .left - 1) (take (w .result) (midOf (g .n) (length sets - g .n) sets))
-      ≡ underAt rules (g .field) (g .left) (take (g .n) (g .sets .now)) (word (drop (g .base) (l .loop .words)) (l .loop .k) 0)
+      ≡ underAt rules (g .field) (g .left) (take (g .n) (g .sets .now)) (cellWord (drop (g .base) (l .loop .words)) (l .loop .k) 0)
   below-turn v = let l = turn-at v .before in below-is (l .loop .inv) (v .narrowed .ensures) (v .before .before .before .end-of .ensures) (v .narrowed .kept .1 .1 .0) (omega (arith, fits l))
 
 pub +build-chain-spec : {M : Type 1} → statement M

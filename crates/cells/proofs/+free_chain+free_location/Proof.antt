@@ -8,7 +8,7 @@ use Rattle.model.specs.Rules.{Tree}
 use Rattle.cells.specs.Text.{width, under}
 use Rattle.cells.specs.Planted.{Deep}
 use Rattle.cells.specs.declared.Below.{Below}
-use Rattle.cells.specs.States.{Held}
+use Rattle.cells.specs.States.{TreeHeld}
 use Rattle.cells.proofs.Free.{Going, Opened, opens, open-lt, open-held, freed, freed-room, freed-less, left-of, going, Ran, rans, ran-all, free-none}
 use borrow.Fn.Kinds.{In}
 use borrow.Fn.PlainCycle.{Measures, is, falls, and}
@@ -50,7 +50,7 @@ location-callees t = (below-of-reads.Asked, below-of-reads.Learnt, chain-below t
 
 abbrev Inv-loop : free-chain-lts.InvT-loop
 Inv-loop words₀ c fields first k₀ words k =
-    (x : Below) (a n : ℕ) (q : List ℕ) (t : Tree ℕ) → x .down ≡ first → Deep t fields → Held words₀ x c a n q t → Going words fields k first c a (a + width t) q (under t + n)
+    (x : Below) (a n : ℕ) (q : List ℕ) (t : Tree ℕ) → x .down ≡ first → Deep t fields → TreeHeld words₀ x c a n q t → Going words fields k first c a (a + width t) q (under t + n)
 
 abbrev μ-loop : free-chain-lts.MeasureT-loop
 μ-loop words₀ c fields first k₀ words k = left-of c k
@@ -58,7 +58,7 @@ abbrev μ-loop : free-chain-lts.MeasureT-loop
 -- in a turn a location stands at k, and after the loop a run is left: for what the `requires` names, and for all that could be named
 turn : (t : ℕ) (c : free-chain-lts.In-loop (callees t) (chain-at t) free-chain.Post Inv-loop μ-loop) →
     let s = c .before .before .before in
-    (x : Below) (a n : ℕ) (q : List ℕ) (t' : Tree ℕ) → x .down ≡ s .args .chain .down → Deep t' (s .args .fields) → Held (s .args .words .now) x (s .args .c) a n q t'
+    (x : Below) (a n : ℕ) (q : List ℕ) (t' : Tree ℕ) → x .down ≡ s .args .chain .down → Deep t' (s .args .fields) → TreeHeld (s .args .words .now) x (s .args .c) a n q t'
     → Opened (c .before .loop .words) (s .args .fields) (c .before .loop .k) (s .args .chain .down) (s .args .c) a (a + width t') q (under t' + n)
 turn t c x a n q t' e p h = opens (c .before .loop .inv x a n q t' e p h) (c .before .before .before .pre .1 .0) (c .loop-test .taken)
 
@@ -70,7 +70,7 @@ here t c = let r = c .before .before .before .pre .1 .1 in turn t c _ (r .a) (r 
 
 left-over : (t : ℕ) (c : free-chain-lts.After-loop (callees t) (chain-at t) free-chain.Post Inv-loop μ-loop) →
     let s = c .before .before .before in
-    (a n : ℕ) (q : List ℕ) (t' : Tree ℕ) → Deep t' (s .args .fields) → Held (s .args .words .now) (s .args .chain) (s .args .c) a n q t'
+    (a n : ℕ) (q : List ℕ) (t' : Tree ℕ) → Deep t' (s .args .fields) → TreeHeld (s .args .words .now) (s .args .chain) (s .args .c) a n q t'
     → Ran (c .before .loop .words) (s .args .chain .down) (s .args .c) a (a + width t') q (under t' + n)
 left-over t c a n q t' p h = rans (c .before .loop .inv _ a n q t' refl p h) (c .before .before .before .pre .1 .0) (c .loop-test .left)
 

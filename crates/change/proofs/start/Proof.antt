@@ -8,9 +8,10 @@ use native.Mathlib.Omega.{arith}
 use lib.Seq.{length-take-le}
 use Rattle.model.proofs.Decide.{default-cells}
 use Rattle.table.specs.Rows.{kindOf}
+use Rattle.layout.proofs.Parts.{part-here}
 use Rattle.layout.proofs.Sound.{roomy}
 use Rattle.layout.proofs.Passed.{fresh-within}
-use Rattle.change.proofs.Planting.{still-long, ready-bare, ready-room, done-words, part-long-here}
+use Rattle.change.proofs.Planting.{still-long, ready-bare, ready-room, done-words}
 use Rattle.change.proofs.Answers.{start-refused, start-done}
 use Rattle.change.proofs.start.Statement.{statement}
 use Rattle.change.proofs.start.Tie as tie
@@ -53,7 +54,7 @@ start-spec =
     let o = sym (q .before .room-for .ensures) ∙ not-false _ (q .if1 .left) in
     let w = roomy (kindOf (a .tops .now) (a .shape)) (a .c) (a .words .now) o in
     let f = e .rows-end .ensures .0 in
-    (part-long-here (a .c) (e .rows-end .result) (a .words .now) (omega (arith, f, w .long)), w .most))
+    (part-here (a .c) (e .rows-end .result) (a .words .now) (omega (arith, f, w .long)), w .most))
     -- slice-relend-prefix-fresh
     (λ c.
     let e = c .before .before .before .before in

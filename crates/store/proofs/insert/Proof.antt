@@ -4,6 +4,7 @@ use borrow.Author.Needs.{needs}
 use mathlib.Core.Path.{_≡_, refl, subst}
 use Rattle.model.specs.Table.{Kind, Rule}
 use Rattle.table.specs.Rows.{ruleIn}
+use lib.ListN.{length}
 use Rattle.model.specs.Ipv4.{ipv4}
 use Rattle.layout.specs.Store.{insertSays, insertWords}
 use Rattle.store.proofs.Chosen.{shaped, scratch}
@@ -33,5 +34,5 @@ insert-spec =
     let r = c .before .before .before .before .before .before .before .before .before .before .before in
     let a = c .before .before .before .before .before .before .before .before .before .before .before .before .before in
     let g = a .args in
-    let d = subst (λ (q : Kind). (k .insert .result ≡ insertSays q (g .words .now) (ruleIn 5 (r .row-of .result) 0)) × (k .insert .last .0 ≡ insertWords q (g .words .now) (ruleIn 5 (r .row-of .result) 0))) (h .shape .ensures) (k .insert .ensures) in
+    let d = subst (λ (q : Kind). (k .insert .result ≡ insertSays q (g .words .now) (ruleIn (length (ipv4 .tops)) (r .row-of .result) 0)) × (k .insert .last .0 ≡ insertWords q (g .words .now) (ruleIn (length (ipv4 .tops)) (r .row-of .result) 0))) (h .shape .ensures) (k .insert .ensures) in
     subst (λ (x : Rule). (k .insert .result ≡ insertSays ipv4 (g .words .now) x) × (k .insert .last .0 ≡ insertWords ipv4 (g .words .now) x)) (r .row-of .ensures .1) d))

@@ -1,61 +1,48 @@
--- `store::read` meets its contract: what is found, or zeros.
+-- `store::read` meets its contract: it reads what the search found.
 -- Assumes nothing.
 use borrow.Author.Needs.{needs}
-use mathlib.Core.Path.{_≡_, refl, sym, ap, subst, _∙_}
-use native.Mathlib.Omega.{arith}
-use Prim.Native.Nat.{suc, _*_}
+use mathlib.Core.Path.{_≡_, refl, sym, subst, _∙_}
+use lib.ListN.{length}
 use Rattle.model.specs.Ipv4.{ipv4}
-use Rattle.model.specs.Table.{Kind, readRule}
+use Rattle.model.specs.Table.{Kind, readAnswer, readRule}
 use Rattle.table.specs.Rows.{ruleIn}
 use Rattle.layout.specs.Store.{rowsOf, tableOf, readSays}
-use Rattle.store.proofs.Chosen.{shaped, scratch, read-no, read-yes, read-passes, rows-here}
+use Rattle.store.proofs.Chosen.{shaped, scratch, found-is, found-front}
 use Rattle.store.proofs.read.Statement.{statement}
 use Rattle.store.proofs.read.Tie as tie
+
+-- the call, where the search has been made
+abbrev start : tie.After-find → tie.Start
+start c = c .before .before .before .before .before .before
+
+-- what the search found, over the kind that is chosen
+found : (c : tie.After-find) → let a = start c .args in (c .find .result .answer ≡ readSays ipv4 (a .words .now) (a .number)) × (c .find .result .answer ≡ 0 → ruleIn (length (ipv4 .tops)) (rowsOf ipv4 (a .words .now)) (c .find .result .row) ≡ readRule ipv4 (tableOf ipv4 (a .words .now)) (a .number))
+found c =
+    let a = start c .args in
+    subst (λ (k : Kind). (c .find .result .answer ≡ readSays k (a .words .now) (a .number)) × (c .find .result .answer ≡ 0 → ruleIn (length (ipv4 .tops)) (rowsOf k (a .words .now)) (c .find .result .row) ≡ readRule k (tableOf k (a .words .now)) (a .number)))
+    (c .before .before .before .shape .ensures)
+    (c .find .ensures)
 
 pub read-spec : {M : Type 1} → statement M
 read-spec =
     tie.close
     (tie.spec
-    (λ c κs. search needs)
     (λ c. search needs)
+    (λ c κs. search needs)
     (λ c. search needs)
     (λ c. search needs)
     -- find-requires
+    (λ c κs. let h = c .before .before .shape .ensures in (shaped _ h, scratch _ h _ _ refl refl))
+    -- rule-found-requires
     (λ c κs.
-    let h = c .before .before .before in
-    (shaped _ (h .shape .ensures), scratch _ (h .shape .ensures) _ _ refl refl))
-    (λ c κs. search needs)
+    let f = c .before .before in
+    let a = start f .args in
+    λ z. found-front (a .words .now) (readAnswer (tableOf ipv4 (a .words .now)) (a .number)) (sym z ∙ found f .0))
     -- returns
     (λ c.
-    let h = c .before .before .before .before .before .before .before .before .before in
-    let f = c .before .before .before .before .before in
-    let s = c .before .before .before .before .before .before .before .before .before .before .before in
-    let e = c .refused .ensures in
-    let g = s .args in let d = subst (λ (q : Kind). (f .find .result .answer ≡ readSays q (g .words .now) (g .number)) × (f .find .result .answer ≡ 0 → ruleIn 5 (rowsOf q (g .words .now)) (f .find .result .row) ≡ readRule q (tableOf q (g .words .now)) (g .number))) (h .shape .ensures) (f .find .ensures) in (e .0 ∙ d .0, read-no ipv4 (g .words .now) (g .number) _ _ (d .0) (c .before .if1 .taken) (e .1)))
-    (λ c. search needs)
-    -- rows-end-requires
-    (λ c κs.
-    let h = c .before .before .before .before .before .before .before .before .before in
-    let w = shaped _ (h .shape .ensures) in
-    (w .narrow, w .few, w .short))
-    (λ c. search needs)
-    (λ c. search needs)
-    (λ c. search needs)
-    (λ c. search needs)
-    -- part-rule-at-end
-    (λ c.
-    let h = c .before .before .before .before .before .before .before .before .before .before in
-    let f = c .before .before .before .before .before .before in
-    let q1 = c .before .before in
-    let s = c .before .before .before .before .before .before .before .before .before .before .before .before in
-    let w = c .rows-end .ensures in
-    let g = s .args in let d = subst (λ (q : Kind). (f .find .result .answer ≡ readSays q (g .words .now) (g .number)) × (f .find .result .answer ≡ 0 → ruleIn 5 (rowsOf q (g .words .now)) (f .find .result .row) ≡ readRule q (tableOf q (g .words .now)) (g .number))) (h .shape .ensures) (f .find .ensures) in let r = read-passes (g .words .now) (g .number) (sym (q1 .if1 .left) ∙ d .0) in omega (arith, r, w .0, ap (λ (k : Kind). k .head) (h .shape .ensures), ap (λ (k : Kind). k .width * suc (k .most)) (h .shape .ensures)))
-    (λ c κs. search needs)
-    -- returns-2
-    (λ c.
-    let h = c .before .before .before .before .before .before .before .before .before .before .before .before in
-    let f = c .before .before .before .before .before .before .before .before in
-    let q1 = c .before .before .before .before in
-    let w = c .before .before in
-    let s = c .before .before .before .before .before .before .before .before .before .before .before .before .before .before in
-    let g = s .args in let d = subst (λ (q : Kind). (f .find .result .answer ≡ readSays q (g .words .now) (g .number)) × (f .find .result .answer ≡ 0 → ruleIn 5 (rowsOf q (g .words .now)) (f .find .result .row) ≡ readRule q (tableOf q (g .words .now)) (g .number))) (h .shape .ensures) (f .find .ensures) in (sym (q1 .if1 .left) ∙ d .0, read-yes ipv4 (g .words .now) (g .number) _ _ (d .0) (q1 .if1 .left) (c .rule-at .ensures ∙ (ap (λ rows. ruleIn 5 rows (f .find .result .row)) (rows-here _ (h .shape .ensures) (g .words .now) _ (w .rows-end .ensures .0)) ∙ d .1 (q1 .if1 .left))))))
+    let f = c .before .before .before in
+    let a = start f .args in
+    let e = c .rule-found .ensures in (
+      e .0 ∙ found f .0,
+      e .1 ∙ found-is ipv4 (a .words .now) (f .find .result .answer) (f .find .result .row) (readSays ipv4 (a .words .now) (a .number)) (readRule ipv4 (tableOf ipv4 (a .words .now)) (a .number)) (found f .0) (found f .1),
+    )))

@@ -1,8 +1,8 @@
--- `capture::word_at` meets its contract, in either order.
+-- `octets::word_at` meets its contract, in either order.
 -- Assumes nothing.
 use borrow.Author.Needs.{needs}
-use Rattle.capture.proofs.word_at.Statement.{statement}
-use Rattle.capture.proofs.word_at.Tie as tie
+use Rattle.octets.proofs.word_at.Statement.{statement}
+use Rattle.octets.proofs.word_at.Tie as tie
 
 pub word-at-spec : {M : Type 1} → statement M
 word-at-spec =

@@ -1,9 +1,9 @@
--- `capture::half_at` meets its contract, in either order.
+-- `octets::half_at` meets its contract, in either order.
 -- Assumes nothing.
 use native.Mathlib.Omega.{arith}
 use borrow.Author.Needs.{needs}
-use Rattle.capture.proofs.half_at.Statement.{statement}
-use Rattle.capture.proofs.half_at.Tie as tie
+use Rattle.octets.proofs.half_at.Statement.{statement}
+use Rattle.octets.proofs.half_at.Tie as tie
 
 pub half-at-spec : {M : Type 1} → statement M
 half-at-spec =

@@ -1,0 +1,44 @@
+// Numbers of 16 and 32 bits in bytes, the most significant byte first or last.
+ghost use mathlib.Core.Path.{_≡_};
+ghost use Prim.Native.Nat.{_+_, _<_};
+ghost use lib.ListN.{length};
+ghost use Rattle.octets.specs.Octets.{half, word};
+
+// The order of the bytes of a number: the most significant first, or last.
+pub enum Order {
+    Big,
+    Little,
+}
+
+// A byte as a wider number.
+pub fn wide(b: u8) -> u32
+    ensures { λ r. ⌜ (r ≡ b) × (r < 256) ⌝ }
+{
+    b as u32
+}
+
+// The 16-bit number at a place.
+pub fn half_at(order: Order, s: &[u8], at: usize) -> u32
+    requires { ⌜ at + 1 < length (now s) ⌝ }
+    ensures { λ r. ⌜ (r ≡ half order (now (s .entry)) at) × (r < 65536) ⌝ }
+{
+    let first = wide(s[at]);
+    let second = wide(s[at + 1]);
+    match order {
+        Order::Big => first * 256 + second,
+        Order::Little => second * 256 + first,
+    }
+}
+
+// The 32-bit number at a place.
+pub fn word_at(order: Order, s: &[u8], at: usize) -> u32
+    requires { ⌜ at + 3 < length (now s) ⌝ }
+    ensures { λ r. ⌜ r ≡ word order (now (s .entry)) at ⌝ }
+{
+    let first = half_at(order, s, at);
+    let second = half_at(order, s, at + 2);
+    match order {
+        Order::Big => first * 65536 + second,
+        Order::Little => second * 65536 + first,
+    }
+}

@@ -1,0 +1,116 @@
+/*
+ * cells.c - how many cells a table takes
+ *
+ * Loads tables of several shapes into the largest store that there is and
+ * prints the cells that each takes; "more" where its tree takes more than
+ * 65,536.  To find what your own table takes, do the same with its rules.
+ * It prints cells.expected.
+ *
+ *     cc -std=c11 -Iinclude examples/cells.c target/staticlib/libreamstork.a -o cells
+ */
+#include <inttypes.h>
+#include <stdio.h>
+
+#include "reamstork.h"
+
+static uint32_t store[REAMSTORK_WORDS(REAMSTORK_CELLS_MAX)];
+static const size_t len = sizeof store / sizeof store[0];
+
+struct rule { uint32_t low[REAMSTORK_FIELDS], high[REAMSTORK_FIELDS]; };
+
+static const uint32_t tops[REAMSTORK_FIELDS] = {
+	[REAMSTORK_DESTINATION] = REAMSTORK_TOP_ADDRESS,
+	[REAMSTORK_SOURCE] = REAMSTORK_TOP_ADDRESS,
+	[REAMSTORK_PROTOCOL] = REAMSTORK_TOP_PROTOCOL,
+	[REAMSTORK_DESTINATION_PORT] = REAMSTORK_TOP_PORT,
+	[REAMSTORK_SOURCE_PORT] = REAMSTORK_TOP_PORT,
+};
+
+static void set(struct rule *r, int field, uint32_t low, uint32_t high)
+{
+	r->low[field] = low;
+	r->high[field] = high;
+}
+
+/* One host, 10.0.0.1 and up. */
+static void host(struct rule *r, uint32_t i)
+{
+	set(r, REAMSTORK_DESTINATION, 0x0a000001 + 2 * i, 0x0a000001 + 2 * i);
+}
+
+/* One UDP port, from 5000 up. */
+static void port(struct rule *r, uint32_t i)
+{
+	set(r, REAMSTORK_PROTOCOL, 17, 17);
+	set(r, REAMSTORK_DESTINATION_PORT, 5000 + 2 * i, 5000 + 2 * i);
+}
+
+/* A host and a port of its own. */
+static void host_and_port(struct rule *r, uint32_t i)
+{
+	host(r, i);
+	port(r, i);
+}
+
+/* The same, from one network. */
+static void host_port_from(struct rule *r, uint32_t i)
+{
+	host_and_port(r, i);
+	set(r, REAMSTORK_SOURCE, 0xc0a80100, 0xc0a801ff);
+}
+
+/* The even ones name a host, the odd ones a port on every host. */
+static void host_or_port(struct rule *r, uint32_t i)
+{
+	(i % 2 ? port : host)(r, i / 2);
+}
+
+/* All overlap with all in the first fields, and no two ends are the same. */
+static uint32_t wide;
+
+static void overlap(struct rule *r, uint32_t i)
+{
+	for (uint32_t f = 0; f < wide; f++)
+		set(r, (int)f, 1 + i, 100 + i);
+}
+
+static void row(const char *name, void (*rule)(struct rule *, uint32_t))
+{
+	static const uint32_t columns[] = { 1, 2, 4, 8, 10, 11, 16, 32, 64 };
+
+	printf("%-40s", name);
+	for (size_t k = 0; k < sizeof columns / sizeof columns[0]; k++) {
+		uint32_t answer = reamstork_start(store, len, REAMSTORK_CELLS_MAX);
+
+		for (uint32_t i = 0; i < columns[k] && answer == REAMSTORK_DONE; i++) {
+			struct rule r = { { 0 }, { 0 } };
+
+			for (int f = 0; f < REAMSTORK_FIELDS; f++)
+				set(&r, f, 0, tops[f]);
+			rule(&r, i);
+			answer = reamstork_insert(store, len, i, 0, r.low, r.high);
+		}
+		if (answer == REAMSTORK_DONE)
+			printf("%7" PRIu32, reamstork_cells(store, len).cells);
+		else
+			printf("%7s", answer == REAMSTORK_NO_ROOM ? "more" : reamstork_answer(answer));
+	}
+	printf("\n");
+}
+
+int main(void)
+{
+	char name[64];
+
+	printf("%-40s%7d%7d%7d%7d%7d%7d%7d%7d%7d\n", "rules", 1, 2, 4, 8, 10, 11, 16, 32, 64);
+	row("one host each", host);
+	row("one host and UDP port each", host_and_port);
+	row("the same, from one network", host_port_from);
+	row("one UDP port each, on any host", port);
+	row("half of them a host, half a port", host_or_port);
+	for (wide = 1; wide <= REAMSTORK_FIELDS; wide++) {
+		snprintf(name, sizeof name, "overlapping in %" PRIu32 " field%s", wide, wide > 1 ? "s" : "");
+		row(name, overlap);
+	}
+	return 0;
+}

@@ -1,0 +1,102 @@
+/* What the header has beside the calls: the names of the fields, the texts of the answers, a rule that was read handed to a scan and to an insert, and a table listed and loaded again.
+
+       face answers      a line for each answer, number and text
+       face version      the version, and the same from its two numbers
+       face rules        0 where all is well, otherwise the line that is not */
+#include <stdio.h>
+#include <string.h>
+
+#include "reamstork.h"
+
+#define SURE(truth) do { if (!(truth)) { printf("tests/face.c:%d: not so: %s\n", __LINE__, #truth); return 1; } } while (0)
+
+static uint32_t one[REAMSTORK_WORDS(100)], two[REAMSTORK_WORDS(100)], moved[REAMSTORK_WORDS(100)];
+static const size_t len = REAMSTORK_WORDS(100);
+
+static int rules(void) {
+  /* a range of its own in each field */
+  const uint32_t low[REAMSTORK_FIELDS] = {
+    [REAMSTORK_SOURCE_PORT] = 50, [REAMSTORK_DESTINATION_PORT] = 40, [REAMSTORK_PROTOCOL] = 30, [REAMSTORK_SOURCE] = 20, [REAMSTORK_DESTINATION] = 10 };
+  const uint32_t high[REAMSTORK_FIELDS] = {
+    [REAMSTORK_SOURCE_PORT] = 59, [REAMSTORK_DESTINATION_PORT] = 48, [REAMSTORK_PROTOCOL] = 37, [REAMSTORK_SOURCE] = 26, [REAMSTORK_DESTINATION] = 15 };
+
+  SURE(reamstork_start_with(one, len, 100, 8) == REAMSTORK_DONE);
+  SURE(reamstork_start_with(two, len, 100, 8) == REAMSTORK_DONE);
+  SURE(reamstork_insert(one, len, 7, 70, low, high) == REAMSTORK_DONE);
+
+  /* each name of a field is that of the lookup's value */
+  SURE(reamstork_lookup(one, len, 10, 20, 30, 40, 50).rule == 7);
+  SURE(reamstork_lookup(one, len, 15, 26, 37, 48, 59).rule == 7);
+  SURE(reamstork_lookup(one, len, 16, 26, 37, 48, 59).rule == REAMSTORK_DEFAULT);
+  SURE(reamstork_lookup(one, len, 15, 27, 37, 48, 59).rule == REAMSTORK_DEFAULT);
+  SURE(reamstork_lookup(one, len, 15, 26, 38, 48, 59).rule == REAMSTORK_DEFAULT);
+  SURE(reamstork_lookup(one, len, 15, 26, 37, 49, 59).rule == REAMSTORK_DEFAULT);
+  SURE(reamstork_lookup(one, len, 15, 26, 37, 48, 60).rule == REAMSTORK_DEFAULT);
+
+  /* read, and scanned */
+  reamstork_rule r = reamstork_read(one, len, 7);
+  SURE(r.answer == REAMSTORK_DONE);
+  reamstork_record list[1] = { reamstork_record_of(r) };
+  SURE(list[0].number == 7 && list[0].action == 70);
+  SURE(memcmp(list[0].low, low, sizeof low) == 0 && memcmp(list[0].high, high, sizeof high) == 0);
+  reamstork_winner w = reamstork_scan(list, 1, 8, 15, 26, 37, 48, 59);
+  SURE(w.answer == REAMSTORK_DONE && w.rule == 7 && w.action == 70);
+  w = reamstork_scan(list, 1, 8, 15, 26, 37, 48, 60);
+  SURE(w.answer == REAMSTORK_DONE && w.rule == REAMSTORK_DEFAULT && w.action == 8);
+
+  /* read, and inserted elsewhere: the same store, word for word */
+  SURE(reamstork_insert(two, len, r.number, r.action, r.low, r.high) == REAMSTORK_DONE);
+  SURE(memcmp(one, two, sizeof one) == 0);
+
+  /* listed by rising number, as the header has it; loaded from the list backwards, the same store */
+  static reamstork_record all[REAMSTORK_RULES_MAX];
+  uint32_t n = 0;
+  SURE(reamstork_insert(one, len, REAMSTORK_NUMBER_MAX, 5, low, high) == REAMSTORK_DONE);
+  SURE(reamstork_insert(one, len, 0, 6, low, high) == REAMSTORK_DONE);
+  while ((r = reamstork_rule_at(one, len, n + 1)).answer == REAMSTORK_DONE)
+    all[n++] = reamstork_record_of(r);
+  SURE(r.answer == REAMSTORK_NO_SUCH_NUMBER && n == 3);
+  SURE(all[0].number == 0 && all[1].number == 7 && all[2].number == REAMSTORK_NUMBER_MAX);
+  SURE(all[0].action == 6 && all[1].action == 70 && all[2].action == 5);
+  SURE(reamstork_start_with(two, len, 100, reamstork_read(one, len, REAMSTORK_DEFAULT).action) == REAMSTORK_DONE);
+  while (n--)
+    SURE(reamstork_insert(two, len, all[n].number, all[n].action, all[n].low, all[n].high) == REAMSTORK_DONE);
+  SURE(memcmp(one, two, sizeof one) == 0);
+  SURE(reamstork_rule_at(one, len, 0).answer == REAMSTORK_NO_SUCH_NUMBER);
+  SURE(reamstork_delete(one, len, 0) == REAMSTORK_DONE && reamstork_delete(one, len, REAMSTORK_NUMBER_MAX) == REAMSTORK_DONE);
+  SURE(reamstork_rule_at(one, len, 1).number == 7);
+
+  /* what the check cannot see, and what it sees: an action, a number that leaves the numbers rising, an end */
+  memcpy(two, one, sizeof one);
+  two[47 + 15 + 1] ^= 1;
+  SURE(reamstork_check(two, len) == REAMSTORK_DONE);
+  two[47 + 15] ^= 1;
+  SURE(reamstork_check(two, len) == REAMSTORK_DONE);
+  two[47 + 15 + 2] ^= 1;
+  SURE(reamstork_check(two, len) == REAMSTORK_BAD_STORE);
+  SURE(reamstork_rule_at(two, len, 1).answer == REAMSTORK_BAD_STORE);
+
+  /* copied: the same store, and one that can be edited */
+  memcpy(moved, one, sizeof one);
+  memset(one, 0, sizeof one);
+  SURE(reamstork_check(moved, len) == REAMSTORK_DONE);
+  SURE(reamstork_lookup(moved, len, 10, 20, 30, 40, 50).rule == 7);
+  SURE(reamstork_delete(moved, len, 7) == REAMSTORK_DONE);
+  SURE(reamstork_cells(moved, len).cells == REAMSTORK_CELLS_MIN);
+  return 0;
+}
+
+int main(int argc, char **argv) {
+  const char *what = argc > 1 ? argv[1] : "";
+
+  if (strcmp(what, "answers") == 0) {
+    for (uint32_t n = 0; n <= 14; n++) printf("%u %s\n", (unsigned)n, reamstork_answer(n));
+    printf("4294967295 %s\n", reamstork_answer(UINT32_MAX));
+    return 0;
+  }
+  if (strcmp(what, "version") == 0) {
+    printf("%s\n%d.%d\n", REAMSTORK_VERSION, REAMSTORK_VERSION_MAJOR, REAMSTORK_VERSION_MINOR);
+    return 0;
+  }
+  return rules();
+}
