@@ -27,7 +27,8 @@ fi
 cp "$archive" "$dir/library.a"
 objcopy --set-section-alignment '.text*=64' "$dir/library.a" 2>/dev/null || cp "$archive" "$dir/library.a"
 
-$cc -o "$dir/speed" "$dir/speed.o" "$dir/plain.o" "$dir/library.a" ${LIBS:-}
+# Names are bound when the program begins, and not within the first call.
+$cc -Wl,-z,now -o "$dir/speed" "$dir/speed.o" "$dir/plain.o" "$dir/library.a" ${LIBS:-}
 cat <<'END'
 Library and plain C take turns over the same words, rules and packets. A round
 is one turn of each. Times are medians over the rounds. The ratio is made round
@@ -76,7 +77,7 @@ done | awk '
 			tally[i] = took[3 + 6 * i] / lookups[3 + 6 * i]
 			scan[i] = took[4 + 6 * i] / lookups[4 + 6 * i]
 			read[i] = (took[6 + 6 * i] - took[5 + 6 * i]) / (reads[6 + 6 * i] - reads[5 + 6 * i])
-			fixed[i] = took[5 + 6 * i] - read[i] * reads[5 + 6 * i]
+			fixed[i] = (took[5 + 6 * i] - read[i] * reads[5 + 6 * i]) / lookups[5 + 6 * i]
 		}
 		printf "  %-24s %12s    %12s    %8s\n", "", "library", "plain C", "ratio"
 		row("lookup by values, mean", values)

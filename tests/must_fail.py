@@ -10,10 +10,14 @@ copy of the crate, over what `rt check` has proved of it (prover.py), so that on
 what the edit touches is proved again. Run `rt check` first. --all tries both, --jobs
 says how many provers at once, --why prints the error of each refusal too.
 
-Edits of the bodies of several functions, none of which calls another of them, are made
-in one copy: a function is proved from the contracts of those that it calls, so an error
-in its own proof comes from its own edit alone. An edit that is not refused there by such
-an error is tried in a copy of its own; --apart tries all of them so.
+Most of what an edit costs is the same for all edits of a crate, so several are tried in
+one copy of it. A function is proved from the contracts of those that it calls, so an
+error in its own proof comes from its own edit alone. Where an edit changes the body of
+one function, that function is put beside itself under another name, with its contract
+and its proof, and the change is made there. Functions that call themselves, that C calls
+or that are walked by hand are changed where they stand, those together of which none calls
+another. An edit that is not refused so is tried in a copy of its own; --apart tries all of
+them so.
 
 The form is that of `rt must-fail`, one line for each part:
     # what must hold and the edit breaks, or what the edit does wrong
@@ -53,6 +57,7 @@ from prover import JOBS, ROOT, SHAPE, Kit, NotProved, crates, over_baselines
 HERE = ROOT / 'tests/must-fail'
 PAGE = ROOT / 'docs/EDITS.md'
 LIMIT = 600  # seconds for one edit
+BESIDE = 8  # wrong functions in one copy of a crate
 PASSED = ('refused', 'shape, meant')
 
 
@@ -127,7 +132,8 @@ class Functions:
     """The functions of a crate: where their bodies are, and which ones they call."""
 
     def __init__(self, crate, file):
-        self.file, source = file, Source((ROOT / 'crates' / crate / file).read_text())
+        self.crate, self.file = crate, file
+        source = Source((ROOT / 'crates' / crate / file).read_text())
         self.text, words = source.text, source.words
         names = {f.name for f in source.functions}
         self.bodies = {f.name: (source.tokens[f.first].start, source.tokens[f.last].end)
@@ -146,21 +152,56 @@ class Functions:
                           if first <= at and at + len(old) <= last] or [None])
         return found.pop() if len(found) == 1 else None
 
+    def proofs(self, name):
+        """The files of a function's proof; there are none where rattle makes it."""
+        return sorted((ROOT / 'crates' / self.crate / 'proofs' / name).glob('**/*.antt'))
+
+    def head(self, name):
+        """Where the function begins, unless it is one that stands only where it is."""
+        head = re.search(r'(?m)^(?:pub )?fn %s\(' % name, self.text)
+        by_hand = any('.Code as ' in path.read_text() for path in self.proofs(name))
+        if head and name != 'main' and name not in self.reached[name] and not by_hand:
+            return head.start()
+        return None
+
+    def beside(self, group):
+        """The files of the crate with each function of the group, {new name: edit}, as its
+        edit has it, beside itself."""
+        texts = {self.file: self.text}
+        for new, edit in group.items():
+            name = self.changed(edit)
+            edit.texts()
+            text = self.text[self.head(name):self.bodies[name][1]]
+            for _, old, wrong in edit.changes:
+                text = text.replace(old, wrong)
+            texts[self.file] += '\n' + re.sub(r'\bfn %s\(' % name, 'fn %s(' % new, text, 1) + '\n'
+            for path in self.proofs(name):
+                proof = re.sub(r'(·proofs\.proofs\.)%s(?=[.\s])' % name, r'\g<1>' + new, path.read_text())
+                proof = re.sub(r'(?<![\w-])%s-spec(?![\w-])' % name.replace('_', '-'),
+                               new.replace('_', '-') + '-spec', proof)
+                place = path.relative_to(ROOT / 'crates' / self.crate / 'proofs' / name)
+                texts['proofs/%s/%s' % (new, place)] = proof
+        return texts
+
     def apart(self, name, others):
         return not any(name == other or name in self.reached[other] or other in self.reached[name]
                        for other in others)
 
     def groups(self, edits):
         """The edits, in groups that can be made in one copy, each {function: edit}."""
-        made, alone = [], []
+        made, alone, many = [], [], {}
         for edit in edits:
             name = None if edit.fault else self.changed(edit)
+            if name and self.head(name) is not None:
+                many['%s_w%d' % (name, len(many))] = edit
+                continue
             free = [group for group in made if name and self.apart(name, group)]
             if free:
                 free[0][name] = edit
             else:
                 (made if name else alone).append({name: edit})
-        return made + alone
+        many = list(many.items())
+        return made + alone + [dict(many[i:i + BESIDE]) for i in range(0, len(many), BESIDE)]
 
 
 def own_error(crate, out, text, name):
@@ -188,8 +229,11 @@ def together(crate, base, group, functions):
     and its part of the prover's seconds."""
     texts = {}
     try:
-        for edit in group.values():
-            texts = edit.texts(texts)
+        if group.keys() <= functions.bodies.keys():
+            for edit in group.values():
+                texts = edit.texts(texts)
+        else:
+            texts = functions.beside(group)
     except Bad:
         return {}
     status, out, took = base.check(texts, LIMIT)

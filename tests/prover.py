@@ -146,7 +146,7 @@ class Baseline:
 
     def check(self, texts, limit=None, whole=False):
         """The prover's exit status (nothing when out of time), what it printed and how
-        long it took for the crate with these files, {name: text}, in place of its own. Where
+        long it took for the crate with these files, {name: text}, in place of its own or beside them. Where
         `whole` is asked for, every module is proved again."""
         with tempfile.TemporaryDirectory(prefix='changed-') as folder:
             copy, kept = Path(folder) / self.crate, Path(folder) / 'kept'
@@ -154,6 +154,7 @@ class Baseline:
                 if (ROOT / 'crates' / self.crate / part).is_dir():
                     shutil.copytree(ROOT / 'crates' / self.crate / part, copy / part)
             for name, text in texts.items():
+                (copy / name).parent.mkdir(parents=True, exist_ok=True)
                 (copy / name).write_text(text)
             if not whole:
                 shutil.copytree(self.kept, kept)
