@@ -24,6 +24,7 @@ static const uint32_t tops[REAMSTORK_FIELDS] = {
 	[REAMSTORK_PROTOCOL] = REAMSTORK_TOP_PROTOCOL,
 	[REAMSTORK_DESTINATION_PORT] = REAMSTORK_TOP_PORT,
 	[REAMSTORK_SOURCE_PORT] = REAMSTORK_TOP_PORT,
+	[REAMSTORK_PORTLESS] = REAMSTORK_TOP_PORTLESS,
 };
 
 static void set(struct rule *r, int field, uint32_t low, uint32_t high)
@@ -38,11 +39,12 @@ static void host(struct rule *r, uint32_t i)
 	set(r, REAMSTORK_DESTINATION, 0x0a000001 + 2 * i, 0x0a000001 + 2 * i);
 }
 
-/* One UDP port, from 5000 up. */
+/* One UDP port, from 5000 up: so of packets with ports alone. */
 static void port(struct rule *r, uint32_t i)
 {
 	set(r, REAMSTORK_PROTOCOL, 17, 17);
 	set(r, REAMSTORK_DESTINATION_PORT, 5000 + 2 * i, 5000 + 2 * i);
+	set(r, REAMSTORK_PORTLESS, 0, 0);
 }
 
 /* A host and a port of its own. */
@@ -59,24 +61,37 @@ static void host_port_from(struct rule *r, uint32_t i)
 	set(r, REAMSTORK_SOURCE, 0xc0a80100, 0xc0a801ff);
 }
 
+/* One host's packets without ports, such as ICMP. */
+static void host_portless(struct rule *r, uint32_t i)
+{
+	host(r, i);
+	set(r, REAMSTORK_PORTLESS, 1, 1);
+}
+
 /* The even ones name a host, the odd ones a port on every host. */
 static void host_or_port(struct rule *r, uint32_t i)
 {
 	(i % 2 ? port : host)(r, i / 2);
 }
 
-/* All overlap with all in the first fields, and no two ends are the same. */
-static uint32_t wide;
+/*
+ * All overlap with all in the first fields, and no two ends are the same.
+ * Where ports are among these fields, packets with ports alone are asked
+ * for, by all rules alike.
+ */
+static int wide;
 
 static void overlap(struct rule *r, uint32_t i)
 {
-	for (uint32_t f = 0; f < wide; f++)
-		set(r, (int)f, 1 + i, 100 + i);
+	for (int f = 0; f < wide; f++)
+		set(r, f, 1 + i, 100 + i);
+	if (wide > REAMSTORK_DESTINATION_PORT)
+		set(r, REAMSTORK_PORTLESS, 0, 0);
 }
 
 static void row(const char *name, void (*rule)(struct rule *, uint32_t))
 {
-	static const uint32_t columns[] = { 1, 2, 4, 8, 10, 11, 16, 32, 64 };
+	static const uint32_t columns[] = { 1, 2, 4, 8, 9, 10, 16, 32, 64 };
 
 	printf("%-40s", name);
 	for (size_t k = 0; k < sizeof columns / sizeof columns[0]; k++) {
@@ -102,14 +117,15 @@ int main(void)
 {
 	char name[64];
 
-	printf("%-40s%7d%7d%7d%7d%7d%7d%7d%7d%7d\n", "rules", 1, 2, 4, 8, 10, 11, 16, 32, 64);
+	printf("%-40s%7d%7d%7d%7d%7d%7d%7d%7d%7d\n", "rules", 1, 2, 4, 8, 9, 10, 16, 32, 64);
 	row("one host each", host);
 	row("one host and UDP port each", host_and_port);
 	row("the same, from one network", host_port_from);
+	row("one host each, packets without ports", host_portless);
 	row("one UDP port each, on any host", port);
 	row("half of them a host, half a port", host_or_port);
-	for (wide = 1; wide <= REAMSTORK_FIELDS; wide++) {
-		snprintf(name, sizeof name, "overlapping in %" PRIu32 " field%s", wide, wide > 1 ? "s" : "");
+	for (wide = 1; wide <= REAMSTORK_SOURCE_PORT + 1; wide++) {
+		snprintf(name, sizeof name, "overlapping in %d field%s", wide, wide > 1 ? "s" : "");
 		row(name, overlap);
 	}
 	return 0;

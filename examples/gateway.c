@@ -1,7 +1,7 @@
 /*
  * gateway.c - the firmware's loop, in small
  *
- * Loads a table of rules into a static store, lists what the store now
+ * Loads a table of rules into a static store, lists what the store
  * holds, decides frames and counts them by action and by rule.  No heap
  * and no input: it prints gateway.expected.
  *
@@ -26,16 +26,24 @@ static const char *const action_names[ACTIONS] = { "drop", "forward", "queue pos
 #define ANY_PROTOCOL 0, REAMSTORK_TOP_PROTOCOL
 #define ANY_PORT 0, REAMSTORK_TOP_PORT
 
-/* Destination and source as prefixes, then the other three ranges but the source port. */
+/* What a rule asks in field 6.  One that names ports asks for packets with ports. */
+#define WITH_PORTS 0, 0
+#define WITHOUT_PORTS 1, 1
+#define ANY_PACKET 0, REAMSTORK_TOP_PORTLESS
+
+/* Destination and source as prefixes, then the other ranges but the source port. */
 static const struct {
 	uint32_t number, action;
-	uint32_t to, to_length, from, from_length, protocol_low, protocol_high, port_low, port_high;
+	uint32_t to, to_length, from, from_length, protocol_low, protocol_high, port_low, port_high, portless_low, portless_high;
 } table[] = {
-	{ 10, QUEUE_POSITION, IP(10,0,0,0), 24, IP(10,0,8,0), 22, 17, 17, 5000, 5009 },
-	{ 20, QUEUE_SERVICE, IP(10,0,0,0), 25, IP(192,168,1,0), 24, 6, 6, 22, 22 },
-	{ 30, DROP, IP(10,0,0,0), 8, IP(192,168,0,0), 16, ANY_PROTOCOL, ANY_PORT },
-	{ 40, DROP, IP(10,0,0,1), 24, 0, 0, ANY_PROTOCOL, ANY_PORT },	/* no prefix: refused by 10 */
-	{ 20, DROP, 0, 0, 0, 0, ANY_PROTOCOL, ANY_PORT },		/* number taken: refused by 3 */
+	{ 10, QUEUE_POSITION, IP(10,0,0,0), 24, IP(10,0,8,0), 22, 17, 17, 5000, 5009, WITH_PORTS },
+	{ 11, QUEUE_POSITION, IP(10,0,0,0), 24, IP(10,0,8,0), 22, 17, 17, ANY_PORT, WITHOUT_PORTS },	/* later fragments of UDP */
+	{ 20, QUEUE_SERVICE, IP(10,0,0,0), 25, IP(192,168,1,0), 24, 6, 6, 22, 22, WITH_PORTS },
+	{ 30, DROP, IP(10,0,0,0), 8, IP(192,168,0,0), 16, ANY_PROTOCOL, ANY_PORT, ANY_PACKET },
+	{ 40, DROP, IP(172,16,0,0), 12, 0, 0, ANY_PROTOCOL, 0, 1023, WITH_PORTS },	/* ICMP is not caught by a port 0 */
+	{ 50, DROP, IP(172,16,0,0), 12, 0, 0, ANY_PROTOCOL, 0, 1023, ANY_PACKET },	/* ports of packets without ports: refused by 2 */
+	{ 60, DROP, IP(10,0,0,1), 24, 0, 0, ANY_PROTOCOL, ANY_PORT, ANY_PACKET },	/* no prefix: refused by 10 */
+	{ 20, DROP, 0, 0, 0, 0, ANY_PROTOCOL, ANY_PORT, ANY_PACKET },			/* number taken: refused by 3 */
 };
 
 /* Frames behind the link header: IPv4 header, then the ports. */
@@ -49,8 +57,9 @@ static const struct {
 	{ 24, { 0x45,0,0,24, 0,4,0x40,0, 64,6,0,0, 192,168,2,9, 10,0,0,5, 0x9c,0x40,0,22 } },		/* another network */
 	{ 24, { 0x45,0,0,24, 0,5,0,100, 64,17,0,0, 10,0,9,7, 10,0,0,5, 1,2,3,4 } },			/* later fragment */
 	{ 20, { 0x45,0,0,20, 0,6,0x40,0, 64,1,0,0, 10,0,9,7, 172,16,0,1 } },				/* ICMP */
-	{ 19, { 0x45,0,0,28, 0,7,0x40,0, 64,17,0,0, 10,0,9,7, 10,0,0 } },				/* cut short */
-	{ 24, { 0x60,0,0,24, 0,8,0x40,0, 64,6,0,0, 10,0,9,7, 10,0,0,5, 0,1,0,2 } },			/* not version 4 */
+	{ 24, { 0x45,0,0,24, 0,7,0x40,0, 64,6,0,0, 10,0,9,7, 172,16,0,1, 0x9c,0x40,0,80 } },		/* TCP, port 80 */
+	{ 19, { 0x45,0,0,28, 0,8,0x40,0, 64,17,0,0, 10,0,9,7, 10,0,0 } },				/* cut short */
+	{ 24, { 0x60,0,0,24, 0,9,0x40,0, 64,6,0,0, 10,0,9,7, 10,0,0,5, 0,1,0,2 } },			/* not version 4 */
 };
 
 static uint32_t store[REAMSTORK_WORDS(1920)];
@@ -67,6 +76,7 @@ static uint32_t load(size_t i)
 		[REAMSTORK_PROTOCOL] = table[i].protocol_low,
 		[REAMSTORK_DESTINATION_PORT] = table[i].port_low,
 		[REAMSTORK_SOURCE_PORT] = 0,
+		[REAMSTORK_PORTLESS] = table[i].portless_low,
 	};
 	const uint32_t high[REAMSTORK_FIELDS] = {
 		[REAMSTORK_DESTINATION] = to.high,
@@ -74,6 +84,7 @@ static uint32_t load(size_t i)
 		[REAMSTORK_PROTOCOL] = table[i].protocol_high,
 		[REAMSTORK_DESTINATION_PORT] = table[i].port_high,
 		[REAMSTORK_SOURCE_PORT] = REAMSTORK_TOP_PORT,
+		[REAMSTORK_PORTLESS] = table[i].portless_high,
 	};
 
 	if (to.answer != REAMSTORK_DONE || from.answer != REAMSTORK_DONE)

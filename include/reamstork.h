@@ -47,7 +47,7 @@
  *
  *  - `words` points to at least `len` words of 32 bits, aligned as
  *    uint32_t is; `packet` points to at least `packet_len` bytes; `low`
- *    and `high` point to five words each; `tallies` points to a
+ *    and `high` point to six words each; `tallies` points to a
  *    reamstork_tallies; `records` points to at least `count` of
  *    reamstork_record.  No pointer is null, not even with a length or
  *    count of 0.
@@ -64,7 +64,7 @@
  *
  * RULES
  *
- * A packet has five values, a rule a range for each, both ends belonging
+ * A packet has six values, a rule a range for each, both ends belonging
  * to it.  These are the fields, in this order, DESTINATION BEFORE SOURCE:
  *
  *     field                    in the arrays low and high   top
@@ -73,9 +73,10 @@
  *     3  protocol              REAMSTORK_PROTOCOL           255
  *     4  destination port      REAMSTORK_DESTINATION_PORT   65,535
  *     5  source port           REAMSTORK_SOURCE_PORT        65,535
+ *     6  portless              REAMSTORK_PORTLESS           1
  *
  * Fields count from 1.  The arrays of C begin at 0, so the constants are 0
- * to 4.  A rule is written by name, and then no field can be swapped:
+ * to 5.  A rule is written by name, and then no field can be swapped:
  *
  *     uint32_t low[REAMSTORK_FIELDS] = { [REAMSTORK_PROTOCOL] = 17, ... };
  *
@@ -88,7 +89,37 @@
  * full ranges, and the action given at the start.
  *
  * A packet is decided by the rule with the least number among those whose
- * five ranges all hold its values.  The default always holds them.
+ * six ranges all hold its values.  The default always holds them.
+ *
+ *
+ * PACKETS WITHOUT PORTS
+ *
+ * Field 6, portless, is 0 where a packet has ports: its protocol is 6
+ * (TCP) or 17 (UDP), and its fragment offset is 0.  It is 1 where it has
+ * none: every other protocol, such as ICMP, and every later fragment, whose
+ * ports went ahead in the first one.  The ports of such a packet read as 0.
+ *
+ * THE PORT RULE: a rule whose two port ranges are not both full, 0 to
+ * 65,535, asks for 0 to 0 in field 6.  Otherwise it is refused with 2.  So
+ * a rule for destination ports 0 to 1023 cannot catch ICMP, nor the later
+ * fragments of a firmware transfer, by a port 0 that they do not have.
+ *
+ * A rule whose port ranges are both full has the choice:
+ *
+ *     0 to 0   packets with ports alone, whatever their ports
+ *     1 to 1   packets without ports alone
+ *     0 to 1   both
+ *
+ * For some ports and for packets without ports take two rules with the
+ * same action, one with those ports and 0 to 0, one with full port ranges
+ * and 1 to 1.
+ *
+ * Arrays written by name that leave field 6 out have 0 there.  Such a rule
+ * asks for 0 to 0 and holds neither ICMP nor later fragments.  A rule that
+ * is to hold them as well names the high end:
+ *
+ *     uint32_t high[REAMSTORK_FIELDS] = {
+ *         [REAMSTORK_PORTLESS] = REAMSTORK_TOP_PORTLESS, ... };
  *
  *
  * CELLS AND READS
@@ -97,13 +128,13 @@
  * above 0, the low end less 1.  The tree has in field 1 one location for
  * each distinct end of all rules, the default included, and below each
  * location the tree, over the next fields, of the rules that cover it.
- * One location takes one cell.  The default alone takes 5.
+ * One location takes one cell.  The default alone takes 6.
  *
  * A lookup in a store that passes the check reads, in each field, one cell
  * and one more for each distinct end below the packet's value, taken over
  * the rules whose ranges hold its earlier values.  The count of reads is a
  * function of the table and the packet.  With n rules besides the default
- * it is at most 2 n + 1 in each field, and at most 6 n + 5 in all: both
+ * it is at most 2 n + 1 in each field, and at most 7 n + 6 in all: both
  * are proved.
  *
  * A lookup touches the cells that it counts and six words besides; this
@@ -155,21 +186,22 @@ extern "C" {
  *
  * A higher minor number adds to this header, or changes the words of a
  * store; a higher major number changes what stands here.  CHANGELOG.md
- * says what.
+ * says what.  Words that another version left may be no store of this one:
+ * run reamstork_check before the first lookup in them.
  */
-#define REAMSTORK_VERSION          "1.1"
-#define REAMSTORK_VERSION_MAJOR    1
-#define REAMSTORK_VERSION_MINOR    1
+#define REAMSTORK_VERSION          "2.0"
+#define REAMSTORK_VERSION_MAJOR    2
+#define REAMSTORK_VERSION_MINOR    0
 
 /*
  * LIMITS
  */
-#define REAMSTORK_FIELDS           5            /* values of a packet       */
+#define REAMSTORK_FIELDS           6            /* values of a packet       */
 #define REAMSTORK_RULES_MAX        64           /* rules besides the default */
 #define REAMSTORK_NUMBER_MAX       65534        /* greatest number of a rule */
 #define REAMSTORK_DEFAULT          65535        /* number of the default     */
 #define REAMSTORK_DEFAULT_ACTION   1            /* of reamstork_start        */
-#define REAMSTORK_CELLS_MIN        5            /* least c                   */
+#define REAMSTORK_CELLS_MIN        6            /* least c                   */
 #define REAMSTORK_CELLS_MAX        65536        /* greatest c                */
 #define REAMSTORK_PLACES           65           /* slots of a tally record, not places of rules */
 #define REAMSTORK_UNUSED           4294967295u  /* key of an unused slot     */
@@ -180,11 +212,13 @@ extern "C" {
 #define REAMSTORK_PROTOCOL         2            /* field 3 */
 #define REAMSTORK_DESTINATION_PORT 3            /* field 4 */
 #define REAMSTORK_SOURCE_PORT      4            /* field 5 */
+#define REAMSTORK_PORTLESS         5            /* field 6 */
 
 /* The greatest value in each field. */
 #define REAMSTORK_TOP_ADDRESS      4294967295u
 #define REAMSTORK_TOP_PROTOCOL     255
 #define REAMSTORK_TOP_PORT         65535
+#define REAMSTORK_TOP_PORTLESS     1
 
 /*
  * The words of a store of c cells, a constant where c is one.  For c
@@ -202,7 +236,7 @@ extern "C" {
  */
 #define REAMSTORK_DONE             0   /* done */
 #define REAMSTORK_BAD_NUMBER       1   /* rule number too high */
-#define REAMSTORK_BAD_RANGE        2   /* low end above high end, or high end above top */
+#define REAMSTORK_BAD_RANGE        2   /* low end above high end, high end above top, or ports asked of packets without ports */
 #define REAMSTORK_NUMBER_TAKEN     3   /* rule number already there */
 #define REAMSTORK_NO_SUCH_NUMBER   4   /* no such rule */
 #define REAMSTORK_TABLE_FULL       5   /* table full */
@@ -216,11 +250,11 @@ extern "C" {
 #define REAMSTORK_NO_PLACE         13  /* no slot left in the tally record */
 
 typedef struct { uint32_t answer, rule, action, reads; } reamstork_found;
-typedef struct { uint32_t answer, number, action, low[5], high[5]; } reamstork_rule;
+typedef struct { uint32_t answer, number, action, low[6], high[6]; } reamstork_rule;
 typedef struct { uint32_t answer, cells; } reamstork_count;
 typedef struct { uint32_t answer, low, high; } reamstork_range;
 typedef struct { uint32_t key[65], packets[65], bytes[65]; } reamstork_tallies;
-typedef struct { uint32_t number, action, low[5], high[5]; } reamstork_record;
+typedef struct { uint32_t number, action, low[6], high[6]; } reamstork_record;
 typedef struct { uint32_t answer, rule, action; } reamstork_winner;
 
 /*
@@ -234,7 +268,7 @@ static inline const char *reamstork_answer(uint32_t answer)
 	switch (answer) {
 	case REAMSTORK_DONE: return "done";
 	case REAMSTORK_BAD_NUMBER: return "rule number too high";
-	case REAMSTORK_BAD_RANGE: return "low end above high end, or high end above top";
+	case REAMSTORK_BAD_RANGE: return "low end above high end, high end above top, or ports asked of packets without ports";
 	case REAMSTORK_NUMBER_TAKEN: return "rule number already there";
 	case REAMSTORK_NO_SUCH_NUMBER: return "no such rule";
 	case REAMSTORK_TABLE_FULL: return "table full";
@@ -277,7 +311,7 @@ static inline reamstork_record reamstork_record_of(reamstork_rule rule)
  * store of c cells with the default rule alone.  reamstork_start gives the
  * default action 1 (forward), reamstork_start_with the action named.
  *
- *   8  c is below 5 or above 65,536, or len below REAMSTORK_WORDS(c)
+ *   8  c is below 6 or above 65,536, or len below REAMSTORK_WORDS(c)
  *   0  done
  *
  * Done: the first REAMSTORK_WORDS(c) words are the new store, every word
@@ -291,7 +325,9 @@ uint32_t reamstork_start_with(uint32_t *words, size_t len, uint32_t c, uint32_t 
  *
  *   9  the store fails the check
  *   1  number above 65,534
- *   2  in some field low above high, or high above the field's top
+ *   2  in some field low above high, or high above the field's top; or a
+ *      port range that is not 0 to 65,535, with another range than 0 to 0
+ *      in field 6, portless
  *   3  a rule with this number is there
  *   5  64 rules besides the default are there
  *   6  the tree of the table with the new rule has more locations than
@@ -308,7 +344,7 @@ uint32_t reamstork_start_with(uint32_t *words, size_t len, uint32_t c, uint32_t 
  * Two rules may have equal ranges.  Whether 6 is given does not depend on
  * the order in which rules were inserted, and neither do the words left.
  */
-uint32_t reamstork_insert(uint32_t *words, size_t len, uint32_t number, uint32_t action, const uint32_t low[5], const uint32_t high[5]);
+uint32_t reamstork_insert(uint32_t *words, size_t len, uint32_t number, uint32_t action, const uint32_t low[6], const uint32_t high[6]);
 
 /*
  * DELETE A RULE
@@ -327,11 +363,12 @@ uint32_t reamstork_delete(uint32_t *words, size_t len, uint32_t number);
 /*
  * CHECK A STORE
  *
- *   0  the words are those of a store: word 0 is a c of 5 to 65,536, len
+ *   0  the words are those of a store: word 0 is a c of 6 to 65,536, len
  *      is at least REAMSTORK_WORDS(c), word 2 is 0, the kind of store that
  *      there is, and the first REAMSTORK_WORDS(c) words hold a table
- *      within the limits above, its tree, and every other cell on the
- *      free chain once, laid as docs/STORE.md has it and in no other way
+ *      within the limits and the port rule above, its tree, and every
+ *      other cell on the free chain once, laid as docs/STORE.md has it and
+ *      in no other way
  *   9  otherwise
  *
  * Every store that an accepted start, insert or delete leaves passes.
@@ -399,32 +436,36 @@ reamstork_rule reamstork_rule_at(const uint32_t *words, size_t len, uint32_t pla
  * COUNT THE CELLS IN USE
  *
  *   9  the store fails the check
- *   0  done: cells is the number of locations of the table's tree, 5 to c
+ *   0  done: cells is the number of locations of the table's tree, 6 to c
  *
  * The other cells are free: in use and free add up to c.  Changes no word.
  */
 reamstork_count reamstork_cells(const uint32_t *words, size_t len);
 
 /*
- * LOOK UP FIVE VALUES
+ * LOOK UP SIX VALUES
  *
- *  11  protocol above 255, or a port above 65,535
+ *  11  protocol above 255, a port above 65,535, or portless above 1
  *   9  the walk is lost, see below
  *   0  done: number and action of the rule that decides, and the cells
  *      that were read
  *
  * in this order.  Changes no word.
  *
+ * portless is 0 for a packet with ports and 1 for one without.  Any values
+ * within their tops are looked up as they are, also such as no header
+ * gives: nothing ties portless to the protocol and the ports.
+ *
  * A lookup does not run the check.  In a store that passes it 9 is never
  * given, and the rule and the reads are those said at the top.  Over any
  * other words the answer follows the walk:
  *
  *   Words.  Word 0 is c, and word 2 names the kind of store, which is 0.
- *   9 at once unless len is at least 3, word 2 is 0, c is 5 to 65,536,
+ *   9 at once unless len is at least 3, word 2 is 0, c is 6 to 65,536,
  *   and len is at least REAMSTORK_WORDS(c).
  *
  *   Fields.  The walk begins at the cell that word 1023 names and goes
- *   through the five fields in order.  Cell k is the words 1024 + 8 k on:
+ *   through the six fields in order.  Cell k is the words 1024 + 8 k on:
  *   its end, the next cell, and what is below it.  9 at a cell that is c
  *   or more.  A cell whose end is below the field's value leads to the
  *   next cell; the first other one leads down, to the cell where the next
@@ -436,9 +477,9 @@ reamstork_count reamstork_cells(const uint32_t *words, size_t len);
  *   times 64, or no multiple of 15, which is the middle of a row.  The
  *   rule's number and action are the words 47 + p and 48 + p.
  *
- *   Reads.  The number of cells so read, at most 5 c.
+ *   Reads.  The number of cells so read, at most 6 c.
  */
-reamstork_found reamstork_lookup(const uint32_t *words, size_t len, uint32_t destination, uint32_t source, uint32_t protocol, uint32_t destination_port, uint32_t source_port);
+reamstork_found reamstork_lookup(const uint32_t *words, size_t len, uint32_t destination, uint32_t source, uint32_t protocol, uint32_t destination_port, uint32_t source_port, uint32_t portless);
 
 /*
  * LOOK UP AN IPV4 PACKET
@@ -458,9 +499,10 @@ reamstork_found reamstork_lookup(const uint32_t *words, size_t len, uint32_t des
  * length leaves fewer than 4 bytes behind the header.
  *
  * Where the protocol is 6 or 17 and the fragment offset is 0 the ports are
- * the first two 16-bit numbers behind the header, source first.  Otherwise
- * both are 0: for other protocols, and for later fragments.  Bytes past
- * the total length, options and checksums are ignored.
+ * the first two 16-bit numbers behind the header, source first, and
+ * portless is 0.  Otherwise, for other protocols and for later fragments,
+ * both ports are 0 and portless is 1.  Bytes past the total length,
+ * options and checksums are ignored.
  */
 reamstork_found reamstork_lookup_packet(const uint32_t *words, size_t len, const uint8_t *packet, size_t packet_len);
 
@@ -521,13 +563,13 @@ reamstork_found reamstork_lookup_packet_tally(const uint32_t *words, size_t len,
 uint32_t reamstork_tally_difference(uint32_t earlier, uint32_t later);
 
 /*
- * LOOK UP FIVE VALUES IN A LIST OF RULES
+ * LOOK UP SIX VALUES IN A LIST OF RULES
  *
  * For whoever holds no store: runs through `count` records from the first.
  *
- *  11  protocol above 255, or a port above 65,535
+ *  11  protocol above 255, a port above 65,535, or portless above 1
  *   0  done: number and action of the record with the least number among
- *      those whose five ranges all hold the values; of several with that
+ *      those whose six ranges all hold the values; of several with that
  *      number the first.  Where none holds them, 65,535 and default_action
  *
  * in this order.  Changes no record, and reports no reads.  65,535 in the
@@ -535,14 +577,15 @@ uint32_t reamstork_tally_difference(uint32_t earlier, uint32_t later);
  *
  * A record may hold any numbers: its own may be above 65,534, or stand in
  * the list more than once, a high end may be above its top, and a range
- * whose low end is above its high end holds nothing.
+ * whose low end is above its high end holds nothing.  The port rule is not
+ * asked of it: its ranges are taken as they are.
  *
  * For the rules of a store that passes the check, in any order, and with
  * the action of its default, answer, rule and action are those of
  * reamstork_lookup, for all values.  reamstork_record_of makes a record of
  * a rule that was read.
  */
-reamstork_winner reamstork_scan(const reamstork_record *records, size_t count, uint32_t default_action, uint32_t destination, uint32_t source, uint32_t protocol, uint32_t destination_port, uint32_t source_port);
+reamstork_winner reamstork_scan(const reamstork_record *records, size_t count, uint32_t default_action, uint32_t destination, uint32_t source, uint32_t protocol, uint32_t destination_port, uint32_t source_port, uint32_t portless);
 
 /*
  * TURN AN ADDRESS PREFIX INTO A RANGE

@@ -25,8 +25,8 @@ enum { CELLS = 1920 };
 
 static uint32_t words[REAMSTORK_WORDS(CELLS)];
 static const size_t len = REAMSTORK_WORDS(CELLS);
-static const uint32_t low[5] = { 0x0a000000, 0, 17, 5000, 0 };
-static uint32_t high[5] = { 0x0a0000ff, 4294967295u, 17, 5009, 65535 };
+static const uint32_t low[REAMSTORK_FIELDS] = { 0x0a000000, 0, 17, 5000, 0, 0 };
+static uint32_t high[REAMSTORK_FIELDS] = { 0x0a0000ff, 4294967295u, 17, 5009, 65535, 0 };
 
 int main(int argc, char **argv)
 {
@@ -42,7 +42,7 @@ int main(int argc, char **argv)
 	if (answer != 0)
 		return 1;
 	if (strcmp(argv[1], "wrong") == 0)
-		high[4] = 65536;
+		high[5] = 2;
 	if (strcmp(argv[1], "high") == 0)
 		number = 65536;
 	if (strcmp(argv[1], "insert") == 0 || strcmp(argv[1], "wrong") == 0)

@@ -15,18 +15,18 @@
 
 uint32_t plain_start(uint32_t *words, size_t len, uint32_t c);
 uint32_t plain_start_with(uint32_t *words, size_t len, uint32_t c, uint32_t action);
-uint32_t plain_insert(uint32_t *words, size_t len, uint32_t number, uint32_t action, const uint32_t low[5], const uint32_t high[5]);
+uint32_t plain_insert(uint32_t *words, size_t len, uint32_t number, uint32_t action, const uint32_t low[6], const uint32_t high[6]);
 uint32_t plain_delete(uint32_t *words, size_t len, uint32_t number);
 uint32_t plain_check(const uint32_t *words, size_t len);
 reamstork_rule plain_read(const uint32_t *words, size_t len, uint32_t number);
 reamstork_rule plain_rule_at(const uint32_t *words, size_t len, uint32_t place);
 reamstork_count plain_cells(const uint32_t *words, size_t len);
-reamstork_found plain_lookup(const uint32_t *words, size_t len, uint32_t destination, uint32_t source, uint32_t protocol, uint32_t destination_port, uint32_t source_port);
+reamstork_found plain_lookup(const uint32_t *words, size_t len, uint32_t destination, uint32_t source, uint32_t protocol, uint32_t destination_port, uint32_t source_port, uint32_t portless);
 reamstork_found plain_lookup_packet(const uint32_t *words, size_t len, const uint8_t *packet, size_t packet_len);
 void plain_tallies_clear(reamstork_tallies *tallies);
 reamstork_found plain_lookup_packet_tally(const uint32_t *words, size_t len, const uint8_t *packet, size_t packet_len, reamstork_tallies *tallies);
 uint32_t plain_tally_difference(uint32_t earlier, uint32_t later);
-reamstork_winner plain_scan(const reamstork_record *records, size_t count, uint32_t default_action, uint32_t destination, uint32_t source, uint32_t protocol, uint32_t destination_port, uint32_t source_port);
+reamstork_winner plain_scan(const reamstork_record *records, size_t count, uint32_t default_action, uint32_t destination, uint32_t source, uint32_t protocol, uint32_t destination_port, uint32_t source_port, uint32_t portless);
 reamstork_range plain_prefix(uint32_t address, uint32_t length);
 
 #endif

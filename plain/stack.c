@@ -19,7 +19,7 @@ enum { CELLS = 65536, STACK = 1 << 20 };
 static uint32_t words[REAMSTORK_WORDS(CELLS)], fresh[REAMSTORK_WORDS(1920)];
 static const size_t len = REAMSTORK_WORDS(CELLS);
 static struct rule rules[64];
-static uint32_t values[5];
+static uint32_t values[REAMSTORK_FIELDS];
 static uint8_t packet[28];
 static reamstork_tallies tallies;
 static uint32_t answer;
@@ -112,7 +112,7 @@ static void cells(void)
 
 static void lookup(void)
 {
-	answer |= reamstork_lookup(words, len, values[0], values[1], values[2], values[3], values[4]).answer;
+	answer |= reamstork_lookup(words, len, values[0], values[1], values[2], values[3], values[4], values[5]).answer;
 }
 
 static void lookup_packet(void)
@@ -134,7 +134,7 @@ static void scan(void)
 {
 	static reamstork_record records[64];
 
-	answer |= reamstork_scan(records, 64, 1, values[0], values[1], values[2], values[3], values[4]).answer;
+	answer |= reamstork_scan(records, 64, 1, values[0], values[1], values[2], values[3], values[4], values[5]).answer;
 }
 
 static void prefix(void)

@@ -27,10 +27,10 @@ static uint32_t draw_word(void)
 	return draw(65536) << 16 | draw(65536);
 }
 
-static const uint32_t tops[5] = { 4294967295u, 4294967295u, 255, 65535, 65535 };
+static const uint32_t tops[REAMSTORK_FIELDS] = { 4294967295u, 4294967295u, 255, 65535, 65535, 1 };
 
 struct rule {
-	uint32_t number, action, low[5], high[5];
+	uint32_t number, action, low[REAMSTORK_FIELDS], high[REAMSTORK_FIELDS];
 };
 
 /* A prefix of that length in a network of 2^bits addresses from base on. */
@@ -46,15 +46,16 @@ static void draw_prefix(struct rule *r, int field, uint32_t base, uint32_t bits,
 /*
  * A rule as a gateway has them: a destination prefix of 8 to 32 within
  * 10.0.0.0, at times a source prefix, TCP or UDP or any protocol, and for
- * these two at times a range of destination ports.  With overlap more of
- * them have more of it.
+ * these two at times a range of destination ports.  A rule with such a
+ * range asks for packets with ports alone, any other for all packets.  With
+ * overlap more of them have more of it.
  */
 static void draw_rule(struct rule *r, int overlap)
 {
 	static const uint32_t ports[] = { 22, 53, 80, 123, 443, 502, 5000, 34962 };
 	uint32_t many = overlap ? 70 : 10;
 
-	for (int f = 0; f < 5; f++) {
+	for (int f = 0; f < REAMSTORK_FIELDS; f++) {
 		r->low[f] = 0;
 		r->high[f] = tops[f];
 	}
@@ -71,6 +72,8 @@ static void draw_rule(struct rule *r, int overlap)
 			r->low[4] = 1024;
 			r->high[4] = 65535;
 		}
+		if (r->high[3] < 65535 || r->low[3] > 0 || r->low[4] > 0)
+			r->high[5] = 0;
 	}
 }
 
@@ -86,15 +89,15 @@ static void draw_table(uint32_t *words, size_t len, uint32_t c, struct rule *rul
 		r->action = draw(8);
 		if (plain_insert(words, len, r->number, r->action, r->low, r->high) != 0)
 			continue;
-		if (plain_cells(words, len).cells > 5 + budget / n * (i + 1))
+		if (plain_cells(words, len).cells > REAMSTORK_CELLS_MIN + budget / n * (i + 1))
 			plain_delete(words, len, r->number);
 		else
 			i++;
 	}
 }
 
-/* Values of TCP or UDP that some rule holds, or any others within 10.0.0.0. */
-static void draw_values(uint32_t v[5], const struct rule *rules, uint32_t n)
+/* Values of TCP or UDP packets with ports that some rule holds, or any others within 10.0.0.0. */
+static void draw_values(uint32_t v[REAMSTORK_FIELDS], const struct rule *rules, uint32_t n)
 {
 	struct rule r;
 
@@ -102,17 +105,18 @@ static void draw_values(uint32_t v[5], const struct rule *rules, uint32_t n)
 		r = rules[draw(n)];
 	else
 		draw_rule(&r, 0);
-	for (int f = 0; f < 5; f++) {
+	for (int f = 0; f < REAMSTORK_FIELDS; f++) {
 		uint32_t size = r.high[f] - r.low[f];
 
 		v[f] = r.low[f] + (size == 0xffffffff ? draw_word() : draw(size + 1));
 	}
 	if (v[2] != 6 && v[2] != 17)
 		v[2] = draw(2) ? 6 : 17;
+	v[5] = 0;
 }
 
-/* The 28 bytes of an IPv4 packet with these values. */
-static void write_packet(uint8_t b[28], const uint32_t v[5])
+/* The 28 bytes of an IPv4 packet with these values, which has ports. */
+static void write_packet(uint8_t b[28], const uint32_t v[REAMSTORK_FIELDS])
 {
 	static const uint8_t header[12] = { 0x45, 0, 0, 28, 0, 0, 0x40, 0, 64, 0, 0, 0 };
 

@@ -16,12 +16,13 @@ import subprocess
 import sys
 
 from independent import command_line
-from packets import EXAMPLE_OUTPUT, capture_of, example_packets
+from packets import EXAMPLE_OUTPUT, address, capture_of, example_packets
 from reference import bench_output
+from tables import packet_of
 
 FOLDER = os.path.join(os.path.dirname(os.path.abspath(__file__)), 'captures')
 HEAD = 'packet answer rule action reads\n'
-ROWS = ('1 0 10 2 8\n', '2 7 0 0 0\n', '3 0 65535 1 7\n')
+ROWS = ('1 0 10 2 9\n', '2 7 0 0 0\n', '3 0 65535 1 8\n')
 REFUSED = 'refused 12\n'
 
 
@@ -33,6 +34,16 @@ def header_of(captured, order, original=None):
     """A record header: seconds, parts of a second, captured and original length."""
     return b''.join(n.to_bytes(4, order)
                     for n in (1, 2, captured, captured if original is None else original))
+
+
+def without_ports():
+    """ICMP, a later fragment and the first one of UDP to port 5004, and a later
+    fragment to a host that rule 20 leaves out."""
+    def to(destination, protocol, **more):
+        return packet_of((address(destination), address('192.168.1.9'), protocol, 5004, 40000),
+                         behind=bytes(4), **more)
+    return [to('10.0.0.5', 1), to('10.0.0.5', 17, offset=1), to('10.0.0.5', 17, flags=1),
+            to('10.0.0.200', 17, offset=1)]
 
 
 def cases():
@@ -47,11 +58,15 @@ def cases():
         empty = capture_of([], order)
         first = capture_of(packets[:1], order)
 
+        # by the port rule rule 10 holds packets with ports alone, rule 20 all
+        yield case('without_ports', capture_of(without_ports(), order),
+                   HEAD + '1 0 20 3 7\n2 0 20 3 8\n3 0 10 2 9\n4 0 65535 1 9\nend 4 0\n')
+
         # how the list ends
         yield case('edge', whole, EXAMPLE_OUTPUT)
         yield case('empty_list', empty, listed(0, 0))
         yield case('record_of_no_bytes', capture_of([b'', udp], order),
-                   HEAD + '1 7 0 0 0\n2 0 10 2 8\nend 2 0\n')
+                   HEAD + '1 7 0 0 0\n2 0 10 2 9\nend 2 0\n')
         yield case('header_cut_at_1', first + header_of(len(udp), order)[:1], listed(1, 1))
         yield case('header_cut_at_15', first + header_of(len(udp), order)[:15], listed(1, 1))
         yield case('header_cut_first', empty + header_of(len(udp), order)[:15], listed(0, 1))
@@ -62,7 +77,7 @@ def cases():
         yield case('too_long_and_whole', first + header_of(16385, order) + bytes(16385), listed(1, 2))
         yield case('too_long_by_far', empty + header_of(2 ** 32 - 1, order), listed(0, 2))
         yield case('longest', first + header_of(16384, order) + udp + bytes(16384 - len(udp)),
-                   HEAD + ROWS[0] + '2 0 10 2 8\nend 2 0\n')
+                   HEAD + ROWS[0] + '2 0 10 2 9\nend 2 0\n')
         yield case('longest_cut', first + header_of(16384, order) + bytes(16383), listed(1, 1))
         yield case('original_length', first[:-len(udp) - 16]
                    + header_of(len(udp), order, 2 ** 32 - 1) + udp, listed(1, 0))

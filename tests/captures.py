@@ -5,7 +5,7 @@
 
 Packets go through text2pcap, tcpdump and scapy into capture files. The
 reference's capture reader must find the same bytes in them, its header reader
-the same five values as tshark, tcpdump and scapy, and, with --bench, the bench
+the same six values as tshark, tcpdump and scapy, and, with --bench, the bench
 program must write what the reference writes. Tools that are missing are
 installed with --install; a part without its tool is skipped and counted.
 """
@@ -113,7 +113,7 @@ class Captures:
             if ours is None or theirs is None:
                 continue
             told += 1
-            with_ports += any(ours[3:]) and None not in theirs
+            with_ports += any(ours[3:5]) and None not in theirs
             if any(b is not None and a != b for a, b in zip(ours, theirs)):
                 bad.append((packet.hex(), ours, theirs))
         print('%s: %d packets, %d read by both, %d of them with ports' % (
@@ -150,10 +150,10 @@ class Captures:
     def tshark_values(self, row):
         if row[0] != '4' or not all(row[1:4]):
             return None
-        protocol, ports = int(row[3]), (0, 0)
+        protocol, ports = int(row[3]), (0, 0, 1)
         if protocol in (6, 17) and row[8] == '0':
             pair = row[4:6] if protocol == 17 else row[6:8]
-            ports = tuple(int(port) if port else None for port in pair)
+            ports = tuple(int(port) if port else None for port in pair) + (0,)
         return (address(row[1]), address(row[2]), protocol) + ports
 
     def tcpdump(self):
@@ -180,9 +180,9 @@ class Captures:
         if not head:
             return None
         offset, protocol = int(head[1]), int(head[2])
-        ports = (0, 0)
+        ports = (0, 0, 1)
         if protocol in (6, 17) and offset == 0:
-            ports = (int(head[6]), int(head[4])) if head[6] and head[4] else (None, None)
+            ports = (int(head[6]), int(head[4]), 0) if head[6] and head[4] else (None, None, 0)
         return (address(head[5]), address(head[3]), protocol) + ports
 
     def scapy(self):
@@ -229,9 +229,9 @@ for _ in range(count):
     data = raw(packet / Padding(bytes(rng.choice((0, 0, 6, 46)))))
     writer.write_packet(data, sec=1, usec=2)
     back = IP(data)
-    ports = (0, 0)
+    ports = (0, 0, 1)
     if back.frag == 0 and isinstance(back.payload, (UDP, TCP)):
-        ports = (back.payload.dport, back.payload.sport)
+        ports = (back.payload.dport, back.payload.sport, 0)
     print(data.hex(), number(back.dst), number(back.src), back.proto, *ports)
 writer.close()
 '''

@@ -3,8 +3,9 @@
 
     tests/case_lines.py [--write]
 
-Two parts of that file repeat one thing many times: 64 rules, and three rules
-deleted in every order. They are written here, between the lines '# written by
+Four parts of that file repeat one thing many times: 64 rules, three rules
+deleted in every order, the same packets over several tables, and port ranges
+with each range of field 6. They are written here, between the lines '# written by
 tests/case_lines.py' and '# as far as here'; --write puts them into the file.
 Without it, they must stand there as they are written, and the reference must
 answer every case of the file as the file says. The last line counts cases.
@@ -16,21 +17,52 @@ import os
 import re
 import sys
 
-from reference import Account, BAD_STORE, NOT_READABLE, read_header
+from reference import Account, BAD_STORE, LEAST_CELLS, NOT_READABLE, read_header
 
 ROOT = os.path.join(os.path.dirname(os.path.abspath(__file__)), '..')
 PATH = os.path.join(ROOT, 'crates', 'cases', 'stdin')
 BEGIN, END = '# written by tests/case_lines.py', '# as far as here'
 WRONG = re.compile(r'^# Wrong on purpose')
 
-FULL = '0.0.0.0-255.255.255.255 0.0.0.0-255.255.255.255 0-255 0-65535 0-65535'
+FULL = '0.0.0.0-255.255.255.255 0.0.0.0-255.255.255.255 0-255 0-65535 0-65535 0-1'
 RULES = {
-    10: '10 2 10.0.0.0-10.0.0.255 0.0.0.0-255.255.255.255 17-17 5000-5009 0-65535',
-    20: '20 3 10.0.0.0-10.0.0.127 0.0.0.0-255.255.255.255 0-255 0-65535 0-65535',
-    30: '30 4 10.0.0.0-10.0.0.127 0.0.0.0-255.255.255.255 6-17 80-5009 0-65535',
+    10: '10 2 10.0.0.0-10.0.0.255 0.0.0.0-255.255.255.255 17-17 5000-5009 0-65535 0-0',
+    20: '20 3 10.0.0.0-10.0.0.127 0.0.0.0-255.255.255.255 0-255 0-65535 0-65535 0-1',
+    30: '30 4 10.0.0.0-10.0.0.127 0.0.0.0-255.255.255.255 6-17 80-5009 0-65535 0-0',
 }
+# what is asked in the fields before the ports
+ANY = '0.0.0.0-255.255.255.255 0.0.0.0-255.255.255.255 0-255'
+# packets from 192.168.1.9 to 10.0.0.5: bytes, protocol, destination and source port, portless
+PACKETS = (
+    ('4500001c0000200040110000c0a801090a0000059c40004500080000', 17, 69, 40000, 0),
+    ('4500001c0000200340110000c0a801090a0000059c40004500080000', 17, 0, 0, 1),
+    ('4500001c00001fff40110000c0a801090a0000059c40004500080000', 17, 0, 0, 1),
+    ('4500001c0000000040010000c0a801090a0000050800000000000000', 1, 0, 0, 1),
+    ('4500001c00000000402f0000c0a801090a0000050000000000000000', 47, 0, 0, 1),
+    ('4500001c0000000040840000c0a801090a0000050000005000000000', 132, 0, 0, 1),
+    ('450000280000000040060000c0a801090a0000059c40005000000000000000000000000000000000',
+     6, 80, 40000, 0),
+    ('450000280000000140060000c0a801090a0000059c40005000000000000000000000000000000000',
+     6, 0, 0, 1),
+    ('4500001c0000000040110000c0a801090a0000050000000000080000', 17, 0, 0, 0),
+    ('450000280000000040060000c0a801090a0000059c40040000000000000000000000000000000000',
+     6, 1024, 40000, 0),
+)
+# what rule 10 asks of ports and in field 6, and rule 20 where there is one; the cells that they
+# take; and what a lookup gives for a destination port up to 1023, for another, and without ports
+TABLES = (
+    (('0-1023 0-65535 0-0',), 10, '10 2 6', '65535 1 7', '65535 1 7'),
+    (('0-65535 0-65535 0-1',), 6, '10 2 6', '10 2 6', '10 2 6'),
+    (('0-65535 0-65535 1-1',), 7, '65535 1 6', '65535 1 6', '10 2 7'),
+    (('0-65535 0-65535 0-0',), 7, '10 2 6', '10 2 6', '65535 1 7'),
+    (('0-1023 0-65535 0-0', '0-65535 0-65535 1-1'), 11, '10 2 6', '65535 1 7', '20 3 7'),
+)
+# destination and source ports that are not both full, and the cells of a rule with them
+NARROW = (('1-65535 0-65535', 10), ('0-65534 0-65535', 10), ('0-65535 1-65535', 9),
+          ('0-65535 0-65534', 9), ('0-0 0-0', 12), ('65535-65535 0-65535', 10),
+          ('0-1023 1024-65535', 12))
 # the cells that rules take, beside the default
-CELLS = {(): 5, (10,): 25, (20,): 15, (30,): 25, (10, 20): 40, (10, 30): 49, (20, 30): 25, (10, 20, 30): 49}
+CELLS = {(): 6, (10,): 33, (20,): 18, (30,): 33, (10, 20): 54, (10, 30): 69, (20, 30): 33, (10, 20, 30): 69}
 
 
 # ---- the repeated lines -------------------------------------------------
@@ -40,7 +72,7 @@ def many_rules():
 
 
 def store_of(rules, fill):
-    return (['room 1504 %d = 1504' % fill, 'start 60 1 = 0']
+    return (['room 1664 %d = 1664' % fill, 'start 80 1 = 0']
             + ['insert %s = 0' % RULES[rule] for rule in rules])
 
 
@@ -57,9 +89,37 @@ def deletes():
     return lines
 
 
+def packets():
+    """What the header gives of each packet, and the packets over several tables."""
+    lines = ['header x%s = 0 10.0.0.5 192.168.1.9 %d %d %d %d' % packet for packet in PACKETS]
+    for rules, cells, low, high, without in TABLES:
+        lines += ['# destination port, source port and field 6: ' + ', and '.join(rules)]
+        lines += ['room 1456 0 = 1456', 'start 54 1 = 0']
+        lines += ['insert %s %s %s = 0' % (rule, ANY, asked)
+                  for rule, asked in zip(('10 2', '20 3'), rules)] + ['cells = 0 %d' % cells]
+        for packet, _, port, _, portless in PACKETS:
+            found = without if portless else low if port < 1024 else high
+            lines += ['packet x%s = 0 %s' % (packet, found)]
+    return lines
+
+
+def narrow_ports():
+    """Refused with all but 0 to 0 in field 6, which leaves the store as it is, and with that
+    taken and deleted again."""
+    lines = ['insert 7 5 %s %s %s = 2' % (ANY, ports, portless)
+             for ports, _ in NARROW for portless in ('0-1', '1-1', '1-0', '0-2')]
+    lines += ['same = 1']
+    for ports, cells in NARROW:
+        lines += ['insert 7 5 %s %s 0-0 = 0' % (ANY, ports), 'cells = 0 %d' % cells, 'delete 7 = 0']
+    return lines + ['same = 1', 'check = 0']
+
+
+PARTS = (many_rules, deletes, packets, narrow_ports)
+
+
 def written(text):
     """The text with the repeated lines as they are written here."""
-    parts = iter((many_rules(), deletes()))
+    parts = iter([part() for part in PARTS])
     return re.sub('(?ms)^%s\n.*?^%s\n' % (BEGIN, END),
                   lambda _: '\n'.join([BEGIN] + next(parts) + [END]) + '\n', text)
 
@@ -127,9 +187,9 @@ class Cases:
 
     def read(self, number):
         if not self.here.account:
-            return (BAD_STORE,) + (0,) * 12
+            return (BAD_STORE,) + (0,) * 14
         got = self.here.account.read(number)
-        return got[:3] + tuple(end for pair in zip(got[3:8], got[8:]) for end in pair)
+        return got[:3] + tuple(end for pair in zip(got[3:9], got[9:]) for end in pair)
 
     def cells(self):
         return self.here.account.cells() if self.here.account else (BAD_STORE, 0)
@@ -143,7 +203,7 @@ class Cases:
 
     def any_account(self):
         account = Account()
-        account.start(2 ** 20, 5)
+        account.start(2 ** 20, LEAST_CELLS)
         return account
 
     def packet(self, packet):
@@ -152,7 +212,7 @@ class Cases:
 
     def header(self, packet):
         values = read_header(packet)
-        return (0,) + values if values else (NOT_READABLE,) + (0,) * 5
+        return (0,) + values if values else (NOT_READABLE,) + (0,) * 6
 
 
 def by_reference(text):
@@ -191,7 +251,7 @@ def main():
             file.write(written(text))
         return 0
     passed, failed = by_reference(text)
-    if written(text) == text and text.count(BEGIN) == 2:
+    if text.count(BEGIN) == len(PARTS) and written(text) == text:
         passed += 1
     else:
         failed += 1

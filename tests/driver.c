@@ -264,11 +264,11 @@ static void housekeeping(uint32_t op) {
 /* ---- calls ---- */
 
 static void call_insert(struct store *s) {
-  uint32_t number = next(), action = next(), ends[10], lent_ends[10];
-  memcpy(ends, next_many(10), sizeof ends);
+  uint32_t number = next(), action = next(), ends[2 * REAMSTORK_FIELDS], lent_ends[2 * REAMSTORK_FIELDS];
+  memcpy(ends, next_many(2 * REAMSTORK_FIELDS), sizeof ends);
   memcpy(lent_ends, ends, sizeof ends);
   uint32_t answer =
-      reamstork_insert(s->words, s->lent, number, action, lent_ends, lent_ends + 5);
+      reamstork_insert(s->words, s->lent, number, action, lent_ends, lent_ends + REAMSTORK_FIELDS);
   after_edit(s, answer);
   if (memcmp(ends, lent_ends, sizeof ends)) fault(ENDS_WRITTEN, s, 0);
 }
@@ -342,10 +342,10 @@ static void look(uint32_t op) {
     uint32_t asked = next();
     reamstork_rule rule = op == READ ? reamstork_read(s->words, s->lent, asked)
                                      : reamstork_rule_at(s->words, s->lent, asked);
-    uint32_t *out = give(13);
+    uint32_t *out = give(3 + 2 * REAMSTORK_FIELDS);
     out[0] = rule.answer, out[1] = rule.number, out[2] = rule.action;
-    memcpy(out + 3, rule.low, 20);
-    memcpy(out + 8, rule.high, 20);
+    memcpy(out + 3, rule.low, sizeof rule.low);
+    memcpy(out + 3 + REAMSTORK_FIELDS, rule.high, sizeof rule.high);
   }
   if (op == CELLS) {
     reamstork_count count = reamstork_cells(s->words, s->lent);
@@ -353,8 +353,8 @@ static void look(uint32_t op) {
     out[0] = count.answer, out[1] = count.cells;
   }
   if (op == LOOKUP) {
-    const uint32_t *v = next_many(5);
-    give_found(reamstork_lookup(s->words, s->lent, v[0], v[1], v[2], v[3], v[4]));
+    const uint32_t *v = next_many(REAMSTORK_FIELDS);
+    give_found(reamstork_lookup(s->words, s->lent, v[0], v[1], v[2], v[3], v[4], v[5]));
   }
   if (op == PACKET || op == TALLY) call_packet(s, op);
   if (op == SCAN) scan(s);
@@ -382,16 +382,17 @@ static void call_difference(void) {
   calls++;
 }
 
-/* A scan through a list of records, 12 words each, which ends where the packets end. */
+/* A scan through a list of records, 14 words each, which ends where the packets end. */
 static void call_records(void) {
   uint32_t action = next();
-  const uint32_t *v = next_many(5);
+  const uint32_t *v = next_many(REAMSTORK_FIELDS);
   size_t count = next(), size = count * sizeof(reamstork_record);
   if (count > 2048) stop("too many records");
-  const uint32_t *numbers = next_many(12 * count);
+  const uint32_t *numbers = next_many(14 * count);
   void *records = packet_end - size;
   memcpy(records, numbers, size);
-  reamstork_winner winner = reamstork_scan(records, count, action, v[0], v[1], v[2], v[3], v[4]);
+  reamstork_winner winner =
+      reamstork_scan(records, count, action, v[0], v[1], v[2], v[3], v[4], v[5]);
   uint32_t *out = give(3);
   out[0] = winner.answer, out[1] = winner.rule, out[2] = winner.action;
   if (memcmp(records, numbers, size)) fault(RECORDS_WRITTEN, NULL, 0);

@@ -1,10 +1,10 @@
 """Random cases: edits, sizes that just fit, and histories."""
 
-from reference import MOST_RULES, Account, count_cells, words_needed
+from reference import LEAST_CELLS, MOST_RULES, Account, count_cells, words_needed
 from store import expect, fresh
 from tables import World, values_near
 
-SIZES = (5, 6, 7, 8, 9, 10, 12, 15, 16, 20, 25, 30, 39, 40, 50, 64, 100, 128, 200, 256, 300, 500,
+SIZES = (6, 7, 8, 9, 10, 12, 15, 18, 20, 25, 30, 33, 40, 53, 54, 64, 100, 128, 200, 256, 300, 500,
          777, 1000, 1024, 1500, 1920)
 LARGE = (2048, 4096, 5000, 8192, 16384, 32767, 32768, 40000, 65535, 65536)
 
@@ -32,7 +32,7 @@ def edits(talk, rng, c=None, steps=None):
         one_edit(store, world, rng)
         store.audit(rng, reads=64 if c < 500 else 6)
         if rng.random() < 0.01:
-            store.start(rng.choice((c, 4, 5, c + 1000)))
+            store.start(rng.choice((c, LEAST_CELLS - 1, LEAST_CELLS, c + 1000)))
             store.audit(rng)
     talk.flush()
 
@@ -52,7 +52,7 @@ def large(talk, rng):
 
 def crowd(talk, rng):
     """Up to 64 rules and past that, then down again."""
-    c = rng.choice((5, 15, 100, 500, 1920, 6000))
+    c = rng.choice((LEAST_CELLS, 18, 100, 500, 1920, 6000))
     world = World(rng, rng.choice((['line'], ['line', 'again'], ['types'], ['types', 'again'])))
     world.numbers = range(65535)
     store = fresh(talk, rng, c)
@@ -98,7 +98,7 @@ def fit(talk, rng):
         store.insert(rule)
         store.delete(rule.number)
         store.audit(rng)
-    if before > 5:
+    if before > LEAST_CELLS:
         store = fresh(talk, rng, before - 1)
         for earlier in plan.rules.values():
             store.insert(earlier)

@@ -14,24 +14,43 @@ static uint32_t one[REAMSTORK_WORDS(100)], two[REAMSTORK_WORDS(100)], moved[REAM
 static const size_t len = REAMSTORK_WORDS(100);
 
 static int rules(void) {
-  /* a range of its own in each field */
+  /* a range of its own in each field; since it is narrow in the ports, 0 to 0 in portless */
   const uint32_t low[REAMSTORK_FIELDS] = {
-    [REAMSTORK_SOURCE_PORT] = 50, [REAMSTORK_DESTINATION_PORT] = 40, [REAMSTORK_PROTOCOL] = 30, [REAMSTORK_SOURCE] = 20, [REAMSTORK_DESTINATION] = 10 };
+    [REAMSTORK_PORTLESS] = 0, [REAMSTORK_SOURCE_PORT] = 50, [REAMSTORK_DESTINATION_PORT] = 40, [REAMSTORK_PROTOCOL] = 30, [REAMSTORK_SOURCE] = 20, [REAMSTORK_DESTINATION] = 10 };
   const uint32_t high[REAMSTORK_FIELDS] = {
-    [REAMSTORK_SOURCE_PORT] = 59, [REAMSTORK_DESTINATION_PORT] = 48, [REAMSTORK_PROTOCOL] = 37, [REAMSTORK_SOURCE] = 26, [REAMSTORK_DESTINATION] = 15 };
+    [REAMSTORK_PORTLESS] = 0, [REAMSTORK_SOURCE_PORT] = 59, [REAMSTORK_DESTINATION_PORT] = 48, [REAMSTORK_PROTOCOL] = 37, [REAMSTORK_SOURCE] = 26, [REAMSTORK_DESTINATION] = 15 };
 
   SURE(reamstork_start_with(one, len, 100, 8) == REAMSTORK_DONE);
   SURE(reamstork_start_with(two, len, 100, 8) == REAMSTORK_DONE);
   SURE(reamstork_insert(one, len, 7, 70, low, high) == REAMSTORK_DONE);
 
   /* each name of a field is that of the lookup's value */
-  SURE(reamstork_lookup(one, len, 10, 20, 30, 40, 50).rule == 7);
-  SURE(reamstork_lookup(one, len, 15, 26, 37, 48, 59).rule == 7);
-  SURE(reamstork_lookup(one, len, 16, 26, 37, 48, 59).rule == REAMSTORK_DEFAULT);
-  SURE(reamstork_lookup(one, len, 15, 27, 37, 48, 59).rule == REAMSTORK_DEFAULT);
-  SURE(reamstork_lookup(one, len, 15, 26, 38, 48, 59).rule == REAMSTORK_DEFAULT);
-  SURE(reamstork_lookup(one, len, 15, 26, 37, 49, 59).rule == REAMSTORK_DEFAULT);
-  SURE(reamstork_lookup(one, len, 15, 26, 37, 48, 60).rule == REAMSTORK_DEFAULT);
+  SURE(reamstork_lookup(one, len, 10, 20, 30, 40, 50, 0).rule == 7);
+  SURE(reamstork_lookup(one, len, 15, 26, 37, 48, 59, 0).rule == 7);
+  SURE(reamstork_lookup(one, len, 16, 26, 37, 48, 59, 0).rule == REAMSTORK_DEFAULT);
+  SURE(reamstork_lookup(one, len, 15, 27, 37, 48, 59, 0).rule == REAMSTORK_DEFAULT);
+  SURE(reamstork_lookup(one, len, 15, 26, 38, 48, 59, 0).rule == REAMSTORK_DEFAULT);
+  SURE(reamstork_lookup(one, len, 15, 26, 37, 49, 59, 0).rule == REAMSTORK_DEFAULT);
+  SURE(reamstork_lookup(one, len, 15, 26, 37, 48, 60, 0).rule == REAMSTORK_DEFAULT);
+  SURE(reamstork_lookup(one, len, 15, 26, 37, 48, 59, 1).rule == REAMSTORK_DEFAULT);
+  SURE(reamstork_lookup(one, len, 15, 26, 37, 48, 59, REAMSTORK_TOP_PORTLESS + 1).answer == REAMSTORK_BAD_VALUE);
+
+  /* the port rule: ports are asked of packets with ports alone */
+  uint32_t wide[REAMSTORK_FIELDS];
+  memcpy(wide, high, sizeof wide);
+  wide[REAMSTORK_PORTLESS] = REAMSTORK_TOP_PORTLESS;
+  SURE(reamstork_insert(one, len, 8, 70, low, wide) == REAMSTORK_BAD_RANGE);
+  /* and a rule with full ports has the choice, packets without ports alone among it */
+  const uint32_t none[REAMSTORK_FIELDS] = { [REAMSTORK_PORTLESS] = 1 };
+  const uint32_t tops[REAMSTORK_FIELDS] = {
+    [REAMSTORK_DESTINATION] = REAMSTORK_TOP_ADDRESS, [REAMSTORK_SOURCE] = REAMSTORK_TOP_ADDRESS,
+    [REAMSTORK_PROTOCOL] = REAMSTORK_TOP_PROTOCOL, [REAMSTORK_DESTINATION_PORT] = REAMSTORK_TOP_PORT,
+    [REAMSTORK_SOURCE_PORT] = REAMSTORK_TOP_PORT, [REAMSTORK_PORTLESS] = REAMSTORK_TOP_PORTLESS };
+  SURE(reamstork_insert(one, len, 8, 80, none, tops) == REAMSTORK_DONE);
+  SURE(reamstork_lookup(one, len, 15, 26, 37, 48, 59, 0).rule == 7);
+  SURE(reamstork_lookup(one, len, 15, 26, 37, 48, 59, 1).rule == 8);
+  SURE(reamstork_lookup(one, len, 16, 26, 37, 48, 59, 0).rule == REAMSTORK_DEFAULT);
+  SURE(reamstork_delete(one, len, 8) == REAMSTORK_DONE);
 
   /* read, and scanned */
   reamstork_rule r = reamstork_read(one, len, 7);
@@ -39,9 +58,11 @@ static int rules(void) {
   reamstork_record list[1] = { reamstork_record_of(r) };
   SURE(list[0].number == 7 && list[0].action == 70);
   SURE(memcmp(list[0].low, low, sizeof low) == 0 && memcmp(list[0].high, high, sizeof high) == 0);
-  reamstork_winner w = reamstork_scan(list, 1, 8, 15, 26, 37, 48, 59);
+  reamstork_winner w = reamstork_scan(list, 1, 8, 15, 26, 37, 48, 59, 0);
   SURE(w.answer == REAMSTORK_DONE && w.rule == 7 && w.action == 70);
-  w = reamstork_scan(list, 1, 8, 15, 26, 37, 48, 60);
+  w = reamstork_scan(list, 1, 8, 15, 26, 37, 48, 60, 0);
+  SURE(w.answer == REAMSTORK_DONE && w.rule == REAMSTORK_DEFAULT && w.action == 8);
+  w = reamstork_scan(list, 1, 8, 15, 26, 37, 48, 59, 1);
   SURE(w.answer == REAMSTORK_DONE && w.rule == REAMSTORK_DEFAULT && w.action == 8);
 
   /* read, and inserted elsewhere: the same store, word for word */
@@ -80,7 +101,7 @@ static int rules(void) {
   memcpy(moved, one, sizeof one);
   memset(one, 0, sizeof one);
   SURE(reamstork_check(moved, len) == REAMSTORK_DONE);
-  SURE(reamstork_lookup(moved, len, 10, 20, 30, 40, 50).rule == 7);
+  SURE(reamstork_lookup(moved, len, 10, 20, 30, 40, 50, 0).rule == 7);
   SURE(reamstork_delete(moved, len, 7) == REAMSTORK_DONE);
   SURE(reamstork_cells(moved, len).cells == REAMSTORK_CELLS_MIN);
   return 0;

@@ -2,7 +2,8 @@
 
 from drive import Disagreement
 from edits import one_edit
-from reference import DEFAULT, MOST_RULES, Account, Rule, default_rule, read_header, words_needed
+from reference import (DEFAULT, LEAST_CELLS, MOST_RULES, TOPS, Account, Rule, default_rule,
+                       read_header, words_needed)
 from store import HOWS, Store, expect, fresh
 from tables import World, random_packet, values_above, values_near
 from walk import walk
@@ -43,7 +44,7 @@ def damaged(rng, words, c):
             position = some_position(rng, words, c, used)
             words[position] = other_value(rng, words, c, position)
     elif kind < 9:
-        size = rng.choice((1, 1, 2, 3, 8, 8, 12, 13, 15, 16))
+        size = rng.choice((1, 1, 2, 3, 8, 8, 12, 14, 15, 16))
         a, b = (min(some_position(rng, words, c, used), len(words) - size) for _ in range(2))
         if size == 8 and a >= 1024 and b >= 1024:
             a, b = a // 8 * 8, b // 8 * 8
@@ -98,13 +99,13 @@ def judge(results, asked, lent):
     if not passed:
         expect(cells == (9, 0), 'cells gave %s where the check gives 9' % (cells,))
         for read in reads:
-            expect(read == (9,) + (0,) * 12, 'read or rule_at gave %s where the check gives 9' % (read,))
-    most = 5 * max((len(lent) - 1024) // 8, 0)
+            expect(read == (9,) + (0,) * 14, 'read or rule_at gave %s where the check gives 9' % (read,))
+    most = len(TOPS) * max((len(lent) - 1024) // 8, 0)
     for values, got in zip(asked, lookups):
         if values is None:
             expect(got == (7, 0, 0, 0), 'an unreadable packet gave %s' % (got,))
             continue
-        expect(got == (9, 0, 0, 0) or got[0] == 0 and 5 <= got[3] <= most,
+        expect(got == (9, 0, 0, 0) or got[0] == 0 and len(TOPS) <= got[3] <= most,
                'a lookup of %s gave %s' % (values, got))
         expect(got[0] == 0 or not passed, 'a lookup gave 9 where the check gives 0')
         want = walk(lent, values)
@@ -134,7 +135,7 @@ def account_of(talk, rng, store, c, words):
     for number, got in zip(candidates, talk.flush()):
         expect(got[0] in (0, 4), 'read of %d gave %s in a store that passes' % (number, got))
         if got[0] == 0:
-            rule = Rule(got[1], got[2], got[3:8], got[8:13])
+            rule = Rule(got[1], got[2], got[3:9], got[9:15])
             expect(rule.number == number, 'read of %d gave rule %d' % (number, rule.number))
             if number == DEFAULT:
                 account.default = rule
@@ -147,7 +148,7 @@ def account_of(talk, rng, store, c, words):
 
 def hostile(talk, rng, c=None, rounds=40):
     """Words of a good store, damaged."""
-    c = c or rng.choice((5, 6, 15, 20, 40, 40, 60, 100, 200))
+    c = c or rng.choice((LEAST_CELLS, 7, 18, 24, 54, 54, 60, 100, 200))
     world = World(rng)
     good = fresh(talk, rng, c, rng.choice((None, 77)))
     for _ in range(rng.randint(0, 12)):
@@ -163,7 +164,7 @@ def hostile(talk, rng, c=None, rounds=40):
         changed = damaged(rng, words[:n], c) + words[n:]
         lent = length
         if rng.random() < 0.1:
-            lent = rng.choice((rng.randrange(length + 1), n - 1, 0, 1, 1023, 1024, 1063))
+            lent = rng.choice((rng.randrange(length + 1), n - 1, 0, 1, 1023, 1024, 1071))
         plans.append((changed, lent))
     for changed, lent in plans:
         talk.set(target.id, 0, changed)
@@ -207,8 +208,8 @@ def garbage(talk, rng):
     table = [World(rng).rule() for _ in range(5)]
     world = World(rng)
     for _ in range(15):
-        c = rng.choice((5, 6, 40, 300))
-        length = rng.choice((0, 1, 2, 1000, 1023, 1024, 1025, 1063, 1064, words_needed(c),
+        c = rng.choice((LEAST_CELLS, 7, 40, 300))
+        length = rng.choice((0, 1, 2, 1000, 1023, 1024, 1025, 1071, 1072, words_needed(c),
                              words_needed(c) + 3))
         supply = rng.choice((
             lambda: rng.getrandbits(32), lambda: 0, lambda: 2 ** 32 - 1, lambda: rng.randrange(c),
@@ -238,7 +239,7 @@ def mazes(talk, rng):
     table = [World(rng).rule() for _ in range(5)]
     for _ in range(12):
         c = rng.choice((20, 100, 65536, 65537)) if rng.random() < 0.04 else (
-            rng.choice((4, 4, 5, 5, 6, 8, 10, 30)))
+            rng.choice((5, 5, 6, 6, 7, 8, 10, 30)))
         used = min(c, 60)
         words = [rng.getrandbits(32) for _ in range(words_needed(used))]
         words += [0] * (words_needed(c) - len(words) + rng.choice((0, 0, 0, 5)))
@@ -249,9 +250,10 @@ def mazes(talk, rng):
         words[1023] = rng.choice(links)
         for k in range(used):
             words[1024 + 8 * k:1027 + 8 * k] = (
-                rng.choice((0, 255, 65535, 2 ** 32 - 1, rng.choice(rng.choice(table).high))),
+                rng.choice((0, 1, 255, 65535, 2 ** 32 - 1, rng.choice(rng.choice(table).high))),
                 rng.choice((k, k + 1, (k + 1) % used, rng.randrange(used), rng.choice(links))),
-                rng.choice((k, (k + 1) % used, rng.randrange(used), rng.choice(links), 64, 65)))
+                rng.choice((k, (k + 1) % used, rng.randrange(used), rng.choice(links), 15, 30,
+                            64, 65, 945, 960, 975)))
         store = talk.make(len(words), rng.choice(HOWS))
         talk.set(store, 0, words)
         for _ in range(3):

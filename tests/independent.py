@@ -21,20 +21,23 @@ from drive import Disagreement, Driver, Talk
 from edits import crowd, edits, fit, histories, large
 from hostile import garbage, hostile, hostile_large, mazes
 from limits import (any_words_before, bench_table, every_length, order_of_refusals,
-                    seven_before_nine, sixty_four, starts)
+                    seven_before_nine, sixty_four, sizes_of_a_walk, starts)
 from packets import BenchProgram, captures, every_prefix, header_grid, headers, prefixes
+from portless import (most_reads, port_rule, port_rule_damage, port_tables, request_example,
+                      who_has_ports)
 from records import bench_list, beside, corners, lists
 from tallies import differences, hostile_tallies, tallies, tally_edges
 
-FIXED = [bench_table, starts, any_words_before, every_length, sixty_four, order_of_refusals,
-         header_grid, seven_before_nine, every_prefix, captures, tally_edges,
-         bench_list, corners]
+FIXED = [bench_table, starts, any_words_before, every_length, sizes_of_a_walk, sixty_four,
+         order_of_refusals, header_grid, seven_before_nine, every_prefix, captures, tally_edges,
+         bench_list, corners, port_rule, request_example, who_has_ports, most_reads,
+         port_rule_damage]
 
 # In this order again and again; the costly ones come seldom.
 RANDOM = [edits, hostile, fit, headers, edits, histories, hostile, garbage, edits, crowd, fit,
           histories, hostile, prefixes, edits, headers, large, hostile, histories, hostile_large,
           mazes, mazes, tallies, differences, tallies, hostile_tallies, lists,
-          beside]
+          beside, port_tables, port_rule_damage, port_tables]
 
 
 class Run:

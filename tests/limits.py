@@ -2,58 +2,70 @@
 
 import drive
 from packets import BENCH_LOOKUPS, address, bench_values
-from reference import BENCH_RULES, DEFAULT, TOPS, Account, Rule, words_needed
+from reference import BENCH_RULES, DEFAULT, PORTLESS, PORTS, TOPS, Account, Rule, words_needed
 from store import HOWS, Store, expect, fresh
-from tables import World, packet_of
+from tables import CHOICES, World, packet_of
+
+# Low ends and high ends: full; narrow in every field that can be; crossed in field 1; and by
+# the port rule refused.
+FULL = ((0,) * 6, TOPS)
+NARROW = ((1, 1, 1, 1, 1, 0), TOPS[:5] + (0,))
+CROSSED = ((1, 0, 0, 0, 0, 0), (0,) + TOPS[1:])
+PORTS_OF_ALL = ((0, 0, 0, 1, 0, 0), TOPS)
 
 
 def bench_table(talk, rng):
     """Document 01's bench table, its numbers written out here and not taken
     from the reference, which is tested by them too."""
     ten, twenty = BENCH_RULES
-    for c, order in ((1920, (ten, twenty)), (1920, (twenty, ten)), (40, (ten, twenty)),
-                     (40, (twenty, ten)), (65536, (ten, twenty))):
+    for c, order in ((1920, (ten, twenty)), (1920, (twenty, ten)), (54, (ten, twenty)),
+                     (54, (twenty, ten)), (65536, (ten, twenty))):
         store = Store(talk, words_needed(c))
         talk.start(store.id, c, 0)
-        talk.cells(store.id, (0, 5))
+        talk.cells(store.id, (0, 6))
         for rule in order:
             talk.insert(store.id, rule, 0)
             if rule is order[0]:
-                talk.cells(store.id, (0, 25 if rule is ten else 15))
-        talk.cells(store.id, (0, 40))
+                talk.cells(store.id, (0, 33 if rule is ten else 18))
+        talk.cells(store.id, (0, 54))
         for row in BENCH_LOOKUPS:
             talk.lookup(store.id, bench_values(row), row[3])
             talk.packet(store.id, packet_of(bench_values(row)), row[3])
+        # the first row's packet as a later fragment and as ICMP, and its values without ports
+        first = bench_values(BENCH_LOOKUPS[0])
+        talk.packet(store.id, packet_of(first, offset=1), (0, 20, 3, 8))
+        talk.packet(store.id, packet_of(first[:2] + (1,) + first[3:]), (0, 20, 3, 7))
+        talk.lookup(store.id, first[:5] + (1,), (0, 20, 3, 10))
         talk.delete(store.id, 20, 0)
-        talk.cells(store.id, (0, 25))
+        talk.cells(store.id, (0, 33))
         talk.insert(store.id, twenty, 0)
         talk.delete(store.id, 10, 0)
-        talk.cells(store.id, (0, 15))
+        talk.cells(store.id, (0, 18))
         talk.delete(store.id, 20, 0)
-        talk.cells(store.id, (0, 5))
+        talk.cells(store.id, (0, 6))
         talk.flush()
     for order in ((ten, twenty), (twenty, ten)):
-        store = Store(talk, words_needed(39))
-        talk.start(store.id, 39, 0)
+        store = Store(talk, words_needed(53))
+        talk.start(store.id, 53, 0)
         talk.insert(store.id, order[0], 0)
         talk.insert(store.id, order[1], 6)
         talk.check(store.id, 0)
-        talk.cells(store.id, (0, 25 if order[0] is ten else 15))
+        talk.cells(store.id, (0, 33 if order[0] is ten else 18))
     talk.prefix(address('10.0.0.0'), 24, (0, 167772160, 167772415))
     talk.prefix(address('10.0.0.1'), 24, (10, 0, 0))
     talk.prefix(0, 0, (0, 0, 4294967295))
     talk.flush()
     account = Account()
-    account.start(words_needed(40), 40)
+    account.start(words_needed(54), 54)
     account.insert(*ten), account.insert(*twenty)
     for row in BENCH_LOOKUPS:
         expect(account.lookup(bench_values(row)) == row[3], 'the reference and document 01')
-    expect(account.cells() == (0, 40), 'the reference and document 01')
+    expect(account.cells() == (0, 54), 'the reference and document 01')
 
 
 def starts(talk, rng):
     """Sizes at and beyond the limits, and slices one word short."""
-    for c in (5, 6, 100, 65535, 65536):
+    for c in (6, 7, 100, 65535, 65536):
         for spare in (-1, 0, 1, 300):
             for how in HOWS[1:]:
                 store = Store(talk, words_needed(c) + spare, how, rng.getrandbits(32))
@@ -64,8 +76,8 @@ def starts(talk, rng):
                 talk.flush()
                 talk.stores = 0
     store = Store(talk, words_needed(65537) + 10)
-    for c in (0, 1, 4, 5, 65535, 65536, 65537, 65541, 65536 + 65536, 2 ** 29, 2 ** 29 + 5, 2 ** 31,
-              2 ** 31 + 5, 2 ** 32 - 1, 2 ** 32 - 128, 2 ** 32 - 127, 2 ** 32 - 123):
+    for c in (0, 1, 4, 5, 6, 7, 65535, 65536, 65537, 65542, 65536 + 65536, 2 ** 29, 2 ** 29 + 6,
+              2 ** 31, 2 ** 31 + 6, 2 ** 32 - 1, 2 ** 32 - 128, 2 ** 32 - 127, 2 ** 32 - 122):
         for action in (None, 5):
             if store.start(c, action) == 0:
                 store.audit(rng)
@@ -74,7 +86,7 @@ def starts(talk, rng):
 
 def any_words_before(talk, rng):
     """A start over any words, used ones too, leaves the same words."""
-    for c in (5, 6, 40, 300, 4096):
+    for c in (6, 7, 40, 300, 4096):
         n = words_needed(c)
         first = Store(talk, n, fill=rng.getrandbits(32))
         first.start(c)
@@ -95,30 +107,31 @@ def any_words_before(talk, rng):
 
 
 def every_length(talk, rng):
-    """Every length of slice from 0 to just over what a store of 5 cells takes,
+    """Every length of slice from 0 to just over what a store of 6 cells takes,
     over the words of a good store."""
-    n = words_needed(5)
+    n = words_needed(6)
     store = Store(talk, n + 8)
-    store.start(5)
-    store.insert(Rule(7, 9, (0,) * 5, TOPS))
-    readable, values = packet_of((1, 2, 17, 4, 5)), (1, 2, 17, 4, 5)
+    store.start(6)
+    store.insert(Rule(7, 9, *FULL))
+    readable, values = packet_of((1, 2, 17, 4, 5)), (1, 2, 17, 4, 5, 0)
     short = Store(talk, n + 8)
     for length in range(n + 9):
         talk.lend(store.id, length)
         talk.lend(short.id, length)
-        talk.start(short.id, 5, 0 if length >= n else 8)
-        talk.start_with(short.id, 6, 3, 0 if length >= n + 8 else 8)
+        talk.start(short.id, 5, 8)
+        talk.start(short.id, 6, 0 if length >= n else 8)
+        talk.start_with(short.id, 7, 3, 0 if length >= n + 8 else 8)
         good = length >= n
         talk.check(store.id, 0 if good else 9)
-        talk.cells(store.id, (0, 5) if good else (9, 0))
-        talk.read(store.id, DEFAULT, store.account.read(DEFAULT) if good else (9,) + (0,) * 12)
-        talk.rule_at(store.id, 1, store.account.rule_at(1) if good else (9,) + (0,) * 12)
-        talk.lookup(store.id, values, (0, 7, 9, 5) if good else (9, 0, 0, 0))
-        talk.lookup(store.id, (1, 2, 256, 4, 5), (11, 0, 0, 0))
-        talk.packet(store.id, readable, (0, 7, 9, 5) if good else (9, 0, 0, 0))
+        talk.cells(store.id, (0, 6) if good else (9, 0))
+        talk.read(store.id, DEFAULT, store.account.read(DEFAULT) if good else (9,) + (0,) * 14)
+        talk.rule_at(store.id, 1, store.account.rule_at(1) if good else (9,) + (0,) * 14)
+        talk.lookup(store.id, values, (0, 7, 9, 6) if good else (9, 0, 0, 0))
+        talk.lookup(store.id, (1, 2, 256, 4, 5, 0), (11, 0, 0, 0))
+        talk.packet(store.id, readable, (0, 7, 9, 6) if good else (9, 0, 0, 0))
         talk.packet(store.id, readable[:19], (7, 0, 0, 0))
         talk.delete(store.id, 65535, 1 if good else 9)
-        talk.insert(store.id, Rule(7, 9, (0,) * 5, TOPS), 3 if good else 9)
+        talk.insert(store.id, Rule(7, 9, *FULL), 3 if good else 9)
     talk.flush()
     # The same with nothing readable behind the slice.
     for length in list(range(12)) + list(range(1010, n + 1)) + [100, 500]:
@@ -126,47 +139,67 @@ def every_length(talk, rng):
         talk.copy(store.id, walled, length)
         good = length >= n
         talk.check(walled, 0 if good else 9)
-        talk.cells(walled, (0, 5) if good else (9, 0))
-        talk.lookup(walled, values, (0, 7, 9, 5) if good else (9, 0, 0, 0))
-        talk.packet(walled, readable, (0, 7, 9, 5) if good else (9, 0, 0, 0))
+        talk.cells(walled, (0, 6) if good else (9, 0))
+        talk.lookup(walled, values, (0, 7, 9, 6) if good else (9, 0, 0, 0))
+        talk.packet(walled, readable, (0, 7, 9, 6) if good else (9, 0, 0, 0))
         talk.packet(walled, readable[:19], (7, 0, 0, 0))
         talk.delete(walled, 8, 4 if good else 9)
-        talk.start(walled, 5, 0 if good else 8)
+        talk.start(walled, 5, 8)
+        talk.start(walled, 6, 0 if good else 8)
         talk.flush()
         talk.stores -= 1
 
 
+def sizes_of_a_walk(talk, rng):
+    """Words over which every walk would come to the default's row: a lookup takes
+    those that name a c within its limits, and no others."""
+    for c, want in ((5, (9, 0, 0, 0)), (6, (0, DEFAULT, 7, 6)), (65536, (0, DEFAULT, 7, 6)),
+                    (65537, (9, 0, 0, 0))):
+        store = Store(talk, words_needed(c), drive.END_AT_WALL)
+        front = [c] + [0] * 46 + [DEFAULT, 7] + [0] * 975
+        talk.set(store.id, 0, front + [2 ** 32 - 1, c, 0, 0, 0, 0, 0, 0] * c)
+        for values in ((0,) * 6, TOPS):
+            talk.lookup(store.id, values, want)
+        talk.packet(store.id, packet_of((1, 2, 17, 3, 4)), want)
+        talk.check(store.id, 9)
+        talk.flush()
+
+
 def sixty_four(talk, rng):
     """64 rules and the 65th, also where the cells are used up."""
-    full = ((0,) * 5, TOPS)
-    for c in (5, 6, 1000):
+    for c in (6, 7, 1000):
         store = fresh(talk, rng, c)
         numbers = rng.sample(range(65535), 64)
         for number in numbers:
-            store.insert(Rule(number, number, *full))
+            store.insert(Rule(number, number, *FULL))
         store.audit(rng)
         spare = next(n for n in range(65535) if n not in store.account.rules)
-        store.insert(Rule(spare, 1, *full))
-        store.insert(Rule(spare, 1, (1, 1, 1, 1, 1), TOPS))
-        store.insert(Rule(numbers[5], 1, *full))
-        store.insert(Rule(65535, 1, *full))
-        store.insert(Rule(spare, 1, (1, 0, 0, 0, 0), (0,) + TOPS[1:]))
+        store.insert(Rule(spare, 1, *FULL))
+        store.insert(Rule(spare, 1, *NARROW))
+        store.insert(Rule(numbers[5], 1, *FULL))
+        store.insert(Rule(65535, 1, *FULL))
+        store.insert(Rule(spare, 1, *CROSSED))
+        store.insert(Rule(spare, 1, *PORTS_OF_ALL))
         store.audit(rng)
         store.delete(numbers[9])
-        store.insert(Rule(spare, 1, (1, 1, 1, 1, 1), TOPS))
-        store.insert(Rule(spare, 2, *full))
+        store.insert(Rule(spare, 1, *NARROW))
+        store.insert(Rule(spare, 2, *FULL))
         store.audit(rng)
         for number in numbers:
             store.delete(number)
         store.delete(spare)
         store.audit(rng)
         talk.flush()
-    # 64 nested and 64 separate ranges in one field.
-    for field in range(5):
+    # 64 nested and 64 separate ranges in one field, and in field 6 the three that there are.
+    for field in range(6):
         store = fresh(talk, rng, 1920)
         for i in range(65):
-            low, high = [0] * 5, list(TOPS)
+            low, high = map(list, FULL)
             low[field], high[field] = (i, TOPS[field] - i) if i % 2 else (3 * i, 3 * i + 1)
+            if field == PORTLESS:
+                low[field], high[field] = CHOICES[i % 3]
+            elif field in PORTS:
+                high[PORTLESS] = 0
             store.insert(Rule(i, i, tuple(low), tuple(high)))
             store.audit(rng, 12, 4)
         talk.flush()
@@ -174,19 +207,22 @@ def sixty_four(talk, rng):
 
 def order_of_refusals(talk, rng):
     """Every pair of things wrong with an insert, a delete or a read."""
-    store = fresh(talk, rng, 15)
+    store = fresh(talk, rng, 18)
     good = BENCH_RULES[1]
     store.insert(good)
     store.insert(BENCH_RULES[0])                                            # 6
     store.insert(Rule(65535, 0, BENCH_RULES[0].low, BENCH_RULES[0].high))   # 1 before 6
-    store.insert(Rule(65535, 0, (1, 0, 0, 0, 0), (0,) + TOPS[1:]))          # 1 before 2
-    store.insert(Rule(20, 0, (1, 0, 0, 0, 0), (0,) + TOPS[1:]))             # 2 before 3
+    store.insert(Rule(65535, 0, *CROSSED))                                  # 1 before 2
+    store.insert(Rule(20, 0, *CROSSED))                                     # 2 before 3
+    store.insert(Rule(65535, 0, *PORTS_OF_ALL))                             # the same
+    store.insert(Rule(20, 0, *PORTS_OF_ALL))
+    store.insert(Rule(30, 0, *PORTS_OF_ALL))                                # 2 before 6
     store.insert(Rule(20, 0, BENCH_RULES[0].low, BENCH_RULES[0].high))      # 3 before 6
-    for field in range(5):
+    for field in range(6):
         for low, high in ((1, 0), (TOPS[field], TOPS[field] - 1), (0, TOPS[field] + 1),
                           (TOPS[field] + 1, TOPS[field] + 1), (TOPS[field] + 1, TOPS[field])):
             if high <= 2 ** 32 - 1 and low <= 2 ** 32 - 1:
-                lows, highs = [0] * 5, list(TOPS)
+                lows, highs = map(list, FULL)
                 lows[field], highs[field] = low, high
                 store.insert(Rule(30, 0, tuple(lows), tuple(highs)))
     for number in (65534, 65535, 65536, 2 ** 32 - 1, 65536 + 20, 19, 21):
@@ -202,7 +238,7 @@ def order_of_refusals(talk, rng):
     for field, top in enumerate(TOPS):
         for value in (top, top + 1, 2 ** 32 - 1, top + 65536):
             if value < 2 ** 32:
-                values = [3] * 5
+                values = [3] * 5 + [0]
                 values[field] = value
                 store.lookup(values)
     store.insert(good)
@@ -213,7 +249,7 @@ def order_of_refusals(talk, rng):
 
 def seven_before_nine(talk, rng):
     """Packets and values over words that are no store at all."""
-    for length in (0, 1, 1063, 1064, 2000):
+    for length in (0, 1, 1071, 1072, 2000):
         for words in (0, 1, 2 ** 32 - 1):
             store = talk.make(length, drive.END_AT_WALL)
             talk.set(store, 0, [words] * length)
@@ -222,18 +258,20 @@ def seven_before_nine(talk, rng):
             talk.packet(store, packet_of((1, 2, 6, 3, 4)), (9, 0, 0, 0))
             talk.packet(store, packet_of((1, 2, 1, 3, 4))[:20], (7, 0, 0, 0))
             talk.packet(store, packet_of((1, 2, 1, 3, 4), total=20)[:20], (9, 0, 0, 0))
-            talk.lookup(store, (1, 2, 256, 3, 4), (11, 0, 0, 0))
-            talk.lookup(store, (1, 2, 255, 65536, 4), (11, 0, 0, 0))
-            talk.lookup(store, (1, 2, 255, 3, 65536), (11, 0, 0, 0))
-            talk.lookup(store, (1, 2, 255, 3, 65535), (9, 0, 0, 0))
+            talk.lookup(store, (1, 2, 256, 3, 4, 0), (11, 0, 0, 0))
+            talk.lookup(store, (1, 2, 255, 65536, 4, 0), (11, 0, 0, 0))
+            talk.lookup(store, (1, 2, 255, 3, 65536, 1), (11, 0, 0, 0))
+            talk.lookup(store, (1, 2, 255, 3, 65535, 2), (11, 0, 0, 0))
+            talk.lookup(store, (1, 2, 255, 3, 65535, 1), (9, 0, 0, 0))
             talk.check(store, 9)
             talk.cells(store, (9, 0))
             for number in (0, 65535, 65536):
-                talk.read(store, number, (9,) + (0,) * 12)
-                talk.rule_at(store, number, (9,) + (0,) * 12)
+                talk.read(store, number, (9,) + (0,) * 14)
+                talk.rule_at(store, number, (9,) + (0,) * 14)
                 talk.delete(store, number, 9)
-                talk.insert(store, Rule(number, 1, (9,) * 5, (0,) * 5), 9)
-            talk.start(store, 4, 8)
+                talk.insert(store, Rule(number, 1, (9,) * 6, (0,) * 6), 9)
+                talk.insert(store, Rule(number, 1, *PORTS_OF_ALL), 9)
+            talk.start(store, 5, 8)
     talk.flush()
 
 

@@ -10,12 +10,13 @@ FRONT, CELL = 1024, 8          # the words before the cells, and those of a cell
 BEGIN = 1023                   # the word that says where a walk begins
 ROWS, ROW = 47, 15             # where the rows begin, and the words of a row
 PLACES = 65                    # rows, and places of a tally record
-LEAST, MOST = 5, 65536         # cells
+LEAST, MOST = 6, 65536         # cells
 KIND, MARK = 2, 0              # the word that names the kind, and what it says
 FRONT_LOADS = (0, 1, KIND, BEGIN) # what every lookup loads of the front, besides the rule's row
 RULE_LOADS = (0, 1)            # what it loads of that row: number and action
 FIXED = len(FRONT_LOADS) + len(RULE_LOADS)
-RECORD = 12                    # words of a record of a list
+RECORD = 14                    # words of a record of a list
+RULE_ENDS = 12                 # words of a rule's ends, low and high, that an insert is lent
 
 # What a packet's header is read from; with ports the four bytes behind it too.
 HEADER_BYTES = {0, 2, 3, 6, 7, 9, *range(12, 20)}
@@ -204,9 +205,9 @@ def see_scan(call, touched, result):
 
 
 def see_edit(call, touched, result):
-    ends = [(ENDS, 40)] if call.op == INSERT else []
+    ends = [(ENDS, 4 * RULE_ENDS)] if call.op == INSERT else []
     touched.only((STORE, 4 * size_of(call)), *ends)
-    expect(not touched.stored(ENDS, 10), 'it writes the ends that it was lent')
+    expect(not touched.stored(ENDS, RULE_ENDS), 'it writes the ends that it was lent')
     stored = touched.stored(STORE, call.len)
     expect(bool(stored) == (result[0] == 0), 'with the answer %d it writes %d words of the store',
            result[0], len(stored))

@@ -8,13 +8,13 @@ from store import expect, fresh
 from tables import World, packet_of, random_packet
 
 BENCH_LOOKUPS = (
-    ('10.0.0.5', 17, 5004, (0, 10, 2, 8)),
-    ('10.0.0.5', 6, 80, (0, 20, 3, 6)),
-    ('10.0.0.5', 17, 5010, (0, 20, 3, 9)),
-    ('10.0.0.200', 6, 80, (0, 65535, 1, 7)),
-    ('10.0.0.200', 17, 5010, (0, 65535, 1, 10)),
-    ('10.0.1.0', 6, 80, (0, 65535, 1, 8)),
-    ('9.255.255.255', 6, 80, (0, 65535, 1, 5)),
+    ('10.0.0.5', 17, 5004, (0, 10, 2, 9)),
+    ('10.0.0.5', 6, 80, (0, 20, 3, 7)),
+    ('10.0.0.5', 17, 5010, (0, 20, 3, 10)),
+    ('10.0.0.200', 6, 80, (0, 65535, 1, 8)),
+    ('10.0.0.200', 17, 5010, (0, 65535, 1, 11)),
+    ('10.0.1.0', 6, 80, (0, 65535, 1, 9)),
+    ('9.255.255.255', 6, 80, (0, 65535, 1, 6)),
 )
 
 
@@ -24,7 +24,7 @@ def address(text):
 
 
 def bench_values(row):
-    return (address(row[0]), address('192.168.1.9'), row[1], row[2], 40000)
+    return (address(row[0]), address('192.168.1.9'), row[1], row[2], 40000, 0)
 
 
 # ---- fixed cases ----
@@ -32,13 +32,16 @@ def bench_values(row):
 def header_grid(talk, rng):
     """Each of the six conditions just holding and just not, with options and
     fragments."""
-    here = (address('10.11.12.13'), address('192.168.1.9'), 17, 0x1389, 0x9C41)
+    here = (address('10.11.12.13'), address('192.168.1.9'), 17, 0x1389, 0x9C41, 0)
     for protocol in (0, 1, 5, 6, 7, 16, 17, 18, 255):
         store = fresh(talk, rng, 1000)
         with_ports = here[:2] + (protocol,) + here[3:]
-        for i, values in enumerate((with_ports, with_ports[:3] + (0, 0))):
+        # these ports; the ports 0, which only a packet with ports can have; all packets
+        # with ports; all without
+        for i, values in enumerate((with_ports, with_ports[:3] + (0, 0, 0))):
             store.insert(Rule(i, 100 + i, values, values))
-            store.insert(Rule(10 + i, 200 + i, values[:3] + (0, 0), values[:3] + (65535, 65535)))
+            store.insert(Rule(10 + i, 200 + i, values[:3] + (0, 0, i),
+                              values[:3] + (65535, 65535, i)))
         for words in range(16):
             options = rng.randbytes(max(4 * words - 20, 0))
             for offset, flags in ((0, 0), (0, 1), (0, 2), (0, 7), (1, 0), (256, 1), (8191, 7)):
@@ -70,9 +73,9 @@ def every_prefix(talk, rng):
 
 
 EXAMPLE_OUTPUT = '''packet answer rule action reads
-1 0 10 2 8
+1 0 10 2 9
 2 7 0 0 0
-3 0 65535 1 7
+3 0 65535 1 8
 end 3 0
 '''
 

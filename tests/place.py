@@ -17,14 +17,16 @@ import argparse
 import sys
 import tempfile
 
-from calls import ARCHIVE, Program, Script, cannot
+from calls import ARCHIVE, GIVEN, Program, Script, cannot
 from loads import CELL, FRONT, READ, START
 from reference import Rule
 
 CELLS = 60
 RULES = (1, 2, 8, 16, 32, 63)
 MOST_FOR_A_RULE = 0.5  # instructions
-LOW, HIGH = (1, 0, 17, 5000, 0), (9, 4294967295, 17, 5009, 65535)
+LOW, HIGH = (1, 0, 17, 5000, 0, 0), (9, 4294967295, 17, 5009, 65535, 0)
+# Refused by the last field: of all that is asked before the search only the port rule is left.
+TOO_HIGH = HIGH[:5] + (2,)
 
 
 def table(rules):
@@ -41,8 +43,9 @@ def reading(program, rules, number, answer):
     script = table(rules)
     script.call(READ, number)
     count, given = program.count(script, 'reamstork_read')
-    if given[-13] != answer:
-        sys.exit('a read of %d among %d rules gives %d, not %d' % (number, rules, given[-13], answer))
+    got = given[-GIVEN[READ]]
+    if got != answer:
+        sys.exit('a read of %d among %d rules gives %d, not %d' % (number, rules, got, answer))
     return count
 
 
@@ -67,7 +70,7 @@ def main():
     with tempfile.TemporaryDirectory(prefix='place-') as folder:
         program = Program(options.archive, folder)
         found = {n: reading(program, n, 65000, 4) - reading(program, n, 65536, 1) for n in RULES}
-        found[64] = inserting(program, HIGH, 5) - inserting(program, HIGH[:4] + (65536,), 2)
+        found[64] = inserting(program, HIGH, 5) - inserting(program, TOO_HIGH, 2)
     passed = 0
     for rules, count in found.items():
         good = count <= found[1] + MOST_FOR_A_RULE * rules

@@ -17,7 +17,7 @@ def any_record(world, rng):
     if rng.random() < 0.3:
         number = rng.choice((0, 65534, 65535, 65536, 2 ** 31, WORD, WORD - 1, rng.getrandbits(32)))
     if rng.random() < 0.3:
-        field = rng.randrange(5)
+        field = rng.randrange(len(TOPS))
         low[field], high[field] = rng.choice((
             (high[field], low[field]), (low[field] + 1 if low[field] < WORD else WORD, low[field]),
             (WORD, 0), (1, 0), (0, WORD), (rng.getrandbits(32), rng.getrandbits(32))))
@@ -89,14 +89,14 @@ def bench_list(talk, rng):
 def corners(talk, rng):
     """No record; one that holds all; the same number twice, in either order;
     each field in turn just held, just not, and crossed."""
-    here = (167772165, 3232235785, 17, 5004, 40000)
+    here = (167772165, 3232235785, 17, 5004, 40000, 1)
     talk.records((), 9, here, (0, 65535, 9))
     for number in (0, 65534, 65535, 65536, WORD):
-        full = Rule(number, 5, (0,) * 5, (WORD,) * 5)
+        full = Rule(number, 5, (0,) * 6, (WORD,) * 6)
         talk.records((full,), 9, here, (0, number, 5))
         talk.records((full, full._replace(action=6)), 9, here, (0, number, 5))
         talk.records((full._replace(action=6), full), 9, here, (0, number, 6))
-    full = Rule(1, 5, (0,) * 5, (WORD,) * 5)
+    full = Rule(1, 5, (0,) * 6, (WORD,) * 6)
     for field, value in enumerate(here):
         def with_ends(low, high, field=field):
             return full._replace(low=full.low[:field] + (low,) + full.low[field + 1:],

@@ -8,11 +8,12 @@ nothing here can wrap round.
 
 from collections import namedtuple
 
-TOPS = (4294967295, 4294967295, 255, 65535, 65535)
-FIELDS = ('destination', 'source', 'protocol', 'destination port', 'source port')
+TOPS = (4294967295, 4294967295, 255, 65535, 65535, 1)
+FIELDS = ('destination', 'source', 'protocol', 'destination port', 'source port', 'portless')
+PORTS, PORTLESS = (3, 4), 5
 DEFAULT = 65535
 MOST_RULES = 64
-LEAST_CELLS, MOST_CELLS = 5, 65536
+LEAST_CELLS, MOST_CELLS = 6, 65536
 
 DONE = 0
 NUMBER_TOO_HIGH, BAD_RANGE, ALREADY_THERE, NOT_THERE, TABLE_FULL, NO_ROOM = 1, 2, 3, 4, 5, 6
@@ -23,7 +24,7 @@ Rule = namedtuple('Rule', 'number action low high')
 
 
 def default_rule(action):
-    return Rule(DEFAULT, action, (0,) * 5, TOPS)
+    return Rule(DEFAULT, action, (0,) * 6, TOPS)
 
 
 def words_needed(c):
@@ -39,7 +40,7 @@ def ends(rule, field):
 
 
 def winner_and_reads(rules, values):
-    """The rule of least number among those whose five ranges hold the values,
+    """The rule of least number among those whose six ranges hold the values,
     and, summed over the fields, one plus the distinct ends below the value,
     over the rules that hold the earlier values."""
     reads = 0
@@ -60,7 +61,7 @@ def count_cells(rules, bound):
     seen = {}
 
     def under(held, field):
-        if field == 5:
+        if field == len(TOPS):
             return 0
         known = seen.get((held, field))
         if known is not None:
@@ -80,7 +81,12 @@ def count_cells(rules, bound):
 
 
 def range_fault(low, high):
-    return any(l > h or h > top for l, h, top in zip(low, high, TOPS))
+    """What gets 2: a low end above its high end, a high end above the top, or a
+    narrow port range with anything but 0 to 0 in field 6."""
+    if any(l > h or h > top for l, h, top in zip(low, high, TOPS)):
+        return True
+    narrow = any((low[port], high[port]) != (0, 65535) for port in PORTS)
+    return narrow and (low[PORTLESS], high[PORTLESS]) != (0, 0)
 
 
 # ---- a store ------------------------------------------------------------
@@ -131,13 +137,13 @@ class Account:
         return DONE
 
     def read(self, number):
-        """(answer, number, action, five low ends, five high ends)"""
+        """(answer, number, action, six low ends, six high ends)"""
         if number == DEFAULT:
             rule = self.default
         elif number > 65534:
-            return (NUMBER_TOO_HIGH,) + (0,) * 12
+            return (NUMBER_TOO_HIGH,) + (0,) * 14
         elif number not in self.rules:
-            return (NOT_THERE,) + (0,) * 12
+            return (NOT_THERE,) + (0,) * 14
         else:
             rule = self.rules[number]
         return (DONE, rule.number, rule.action) + rule.low + rule.high
@@ -146,7 +152,7 @@ class Account:
         """The same for a place from 1 up, in the order of the numbers."""
         numbers = sorted(self.rules)
         if not 1 <= place <= len(numbers):
-            return (NOT_THERE,) + (0,) * 12
+            return (NOT_THERE,) + (0,) * 14
         return self.read(numbers[place - 1])
 
     def cells(self):
@@ -227,7 +233,7 @@ def scan(records, action, values):
 # ---- headers, prefixes, captures ----------------------------------------
 
 def read_header(packet):
-    """The five values of an IPv4 packet in the order of the fields, or None."""
+    """The six values of an IPv4 packet in the order of the fields, or None."""
     if len(packet) < 20:
         return None
     version, header = packet[0] >> 4, 4 * (packet[0] & 15)
@@ -237,13 +243,15 @@ def read_header(packet):
     if version != 4 or header < 20 or total < header or len(packet) < total:
         return None
     source_port = destination_port = 0
+    portless = 1
     if protocol in (6, 17) and offset == 0:
         if total - header < 4:
             return None
         source_port = int.from_bytes(packet[header:header + 2], 'big')
         destination_port = int.from_bytes(packet[header + 2:header + 4], 'big')
+        portless = 0
     return (int.from_bytes(packet[16:20], 'big'), int.from_bytes(packet[12:16], 'big'),
-            protocol, destination_port, source_port)
+            protocol, destination_port, source_port, portless)
 
 
 def prefix(address, length):
@@ -280,8 +288,8 @@ def capture_records(capture):
 
 
 BENCH_RULES = (
-    Rule(10, 2, (167772160, 0, 17, 5000, 0), (167772415, 4294967295, 17, 5009, 65535)),
-    Rule(20, 3, (167772160, 0, 0, 0, 0), (167772287, 4294967295, 255, 65535, 65535)),
+    Rule(10, 2, (167772160, 0, 17, 5000, 0, 0), (167772415, 4294967295, 17, 5009, 65535, 0)),
+    Rule(20, 3, (167772160, 0, 0, 0, 0, 0), (167772287, 4294967295, 255, 65535, 65535, 1)),
 )
 
 

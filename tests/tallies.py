@@ -1,11 +1,11 @@
 """Cases about tallies: lookups that count for the rule that decides."""
 
-from reference import DEFAULT, NO_PLACE, Rule, Tally, read_header, words_needed
+from reference import DEFAULT, NO_PLACE, TOPS, Rule, Tally, read_header, words_needed
 from store import HOWS, Store, expect, fresh
 from tables import World, packet_of, random_packet
 from walk import walk
 
-FULL = ((0,) * 5, (4294967295, 4294967295, 255, 65535, 65535))
+FULL = ((0,) * 6, TOPS)
 CLEAR = (4294967295,) * 65 + (0,) * 130
 
 
@@ -50,7 +50,7 @@ def tally_edges(talk, rng):
     store = Store(talk, words_needed(40))
     store.start(40, 7)
     packet = packet_of((1, 2, 17, 3, 4), behind=bytes(11)) + b'past the total length'
-    done = (0, DEFAULT, 7, 5)
+    done = (0, DEFAULT, 7, 6)
 
     def record(changes):
         words = list(CLEAR)

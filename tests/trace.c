@@ -69,8 +69,8 @@ static void edit(uint32_t op) {
   if (op == START_WITH) { CALL(uint32_t, reamstork_start_with(words, len, a, b)); }
   if (op == DELETE) { CALL(uint32_t, reamstork_delete(words, len, a)); }
   if (op == INSERT) {
-    uint32_t *ends = lend(ENDS, 10);
-    CALL(uint32_t, reamstork_insert(words, len, a, b, ends, ends + 5));
+    uint32_t *ends = lend(ENDS, 2 * REAMSTORK_FIELDS);
+    CALL(uint32_t, reamstork_insert(words, len, a, b, ends, ends + REAMSTORK_FIELDS));
   }
 }
 
@@ -83,8 +83,8 @@ static void look(uint32_t op) {
 }
 
 static void lookup(void) {
-  uint32_t a = next(), b = next(), c = next(), d = next(), e = next();
-  CALL(reamstork_found, reamstork_lookup(words, len, a, b, c, d, e));
+  uint32_t a = next(), b = next(), c = next(), d = next(), e = next(), f = next();
+  CALL(reamstork_found, reamstork_lookup(words, len, a, b, c, d, e, f));
 }
 
 static void lookup_packet(uint32_t op) {
@@ -102,10 +102,10 @@ static void lookup_packet(uint32_t op) {
 }
 
 static void scan(void) {
-  uint32_t action = next(), a = next(), b = next(), c = next(), d = next(), e = next();
+  uint32_t action = next(), a = next(), b = next(), c = next(), d = next(), e = next(), f = next();
   size_t count = next();
-  reamstork_record *records = lend(RECORDS, 12 * count);
-  CALL(reamstork_winner, reamstork_scan(records, count, action, a, b, c, d, e));
+  reamstork_record *records = lend(RECORDS, 14 * count);
+  CALL(reamstork_winner, reamstork_scan(records, count, action, a, b, c, d, e, f));
 }
 
 static void small(uint32_t op) {

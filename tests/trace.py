@@ -37,7 +37,7 @@ from calls import ARCHIVE, Program, Script, cannot
 from loads import (BEGIN, CELL, CELLS, CHECK, CLEAR, DELETE, DIFFERENCE, FRONT, INSERT, LOOKUP,
                    LOOKUP_PACKET, LOOKUP_TALLY, PLACES, PREFIX, READ, RULE_AT, SCAN, START,
                    START_WITH, Fault, Touched, see)
-from reference import Rule, default_rule
+from reference import LEAST_CELLS, TOPS, Rule, default_rule
 from tables import World, packet_of, random_packet, values_above, values_near
 
 # each call's name, and the answers that a run has to see
@@ -51,7 +51,7 @@ CALLS = {
     PREFIX: ('prefix', {0, 10}), CLEAR: ('tallies_clear', set()),
     DIFFERENCE: ('tally_difference', set())}
 BEHIND = 0xA5A5A5A5
-FULL = (0,) * 5, (4294967295, 4294967295, 255, 65535, 65535)
+FULL = (0,) * 6, TOPS
 
 
 # ---- stores
@@ -60,9 +60,9 @@ def tables(program, rng, count):
     """Random tables, one that is full, and one that has no room: c, the rules with the
     default, the words."""
     script = Script()
-    made = [(60, [Rule(n, n, *FULL) for n in range(64)]), (5, [])]
+    made = [(60, [Rule(n, n, *FULL) for n in range(64)]), (LEAST_CELLS, [])]
     for i in range(count):
-        c = 1920 if i % 6 == 5 else rng.choice((5, 20, 40, 60, 120, 300))
+        c = 1920 if i % 6 == 5 else rng.choice((LEAST_CELLS, 20, 40, 60, 120, 300))
         world = World(rng)
         numbers = rng.sample(range(65535), rng.randint(0, 40 if c == 1920 else 10))
         made.append((c, [world.rule(number) for number in numbers]))
@@ -139,11 +139,13 @@ def refused_edits(script, rng, rules):
     rule = rules[0]
     script.insert(Rule(65535, 1, *FULL))
     script.insert(Rule(rule.number, 1, *FULL))
-    script.insert(Rule(7, 1, (1, 0, 0, 0, 0), (0, *FULL[1][1:])))
+    script.insert(Rule(7, 1, (1, 0, 0, 0, 0, 0), (0, *TOPS[1:])))
+    script.insert(Rule(7, 1, (0, 0, 0, 0, 1, 0), TOPS))
     script.call(DELETE, 65535)
     if all(rule.number != 8 for rule in rules):
         script.call(DELETE, 8)
-    for c in (4, 65537, 1 << 31, (script.len - FRONT) // CELL + 1 if script.len >= FRONT else 5):
+    for c in (LEAST_CELLS - 1, 65537, 1 << 31,
+              (script.len - FRONT) // CELL + 1 if script.len >= FRONT else LEAST_CELLS):
         script.call(START, c)
         script.call(START_WITH, c, 3)
 
@@ -159,7 +161,7 @@ def taken_edits(script, rng, c, rules, words):
     script.call(DELETE, rng.choice(rules).number)
     for op, more in ((START, ()), (START_WITH, (5,))):
         script.fill([rng.getrandbits(32) for _ in words])
-        script.call(op, rng.randint(5, c), *more)
+        script.call(op, rng.randint(LEAST_CELLS, c), *more)
 
 
 def over_table(script, rng, c, rules, words):
@@ -194,10 +196,16 @@ def over_damage(script, rng, c, rules, words):
 def over_maze(script, rng, c, rules, words):
     """In each field one cell, all c, or a ring of them."""
     script.fill(maze(rng, c, words, 17) + [BEHIND] * 8)
-    for values in ((1,) * 5, (0, 1, 0, 1, 1), (1, 1, 18, 1, 1), (18,) * 5, (1, 1, 1, 1, 18)):
+    for values in ((1,) * 6, (0, 1, 0, 1, 1, 0), (1, 1, 18, 1, 1, 1), (18,) * 5 + (0,),
+                   (1, 1, 1, 1, 18, 1)):
         script.call(LOOKUP, *values)
     script.packet(packet_of((1, 1, 17, 1, 1)))
     script.packet(packet_of((1, 1, 17, 1, 18)))
+    script.packet(packet_of((1, 1, 17, 1, 1), offset=1))
+    # the last field goes round as well, where no end is above 0
+    script.fill(maze(rng, c, words, 0) + [BEHIND] * 8)
+    script.call(LOOKUP, 0, 0, 0, 0, 0, 1)
+    script.packet(packet_of((0, 0, 0, 0, 0)))
 
 
 def all_calls(program, rng, count):

@@ -2,8 +2,8 @@
 
 Document 01 leaves the layout of a store to the project and has the answer of
 a lookup over words that fail the check follow the walk written in docs/. So
-this page, and this page alone among the tests, is written from the manual;
-reference.py knows no layout.
+this page is written from the manual, and laid.py from STORE.md; reference.py
+knows no layout.
 """
 
 REFUSED = (9, 0, 0, 0)
@@ -13,7 +13,7 @@ def walk(words, values):
     """(answer, rule, action, reads) for the words that a lookup is lent."""
     if len(words) < 3 or words[2] != 0:
         return REFUSED
-    if not 5 <= words[0] <= 65536 or len(words) < 1024 + 8 * words[0]:
+    if not 6 <= words[0] <= 65536 or len(words) < 1024 + 8 * words[0]:
         return REFUSED
     c, cell, reads = words[0], words[1023], 0
     for value in values:

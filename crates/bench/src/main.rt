@@ -38,15 +38,15 @@ fn fill(words: &mut [u32])
     store::insert(words, rule_20());
 }
 
-// Destination 10.0.0.0 to 10.0.0.255, any source, protocol 17, destination port 5000 to 5009, any source port.
+// Destination 10.0.0.0 to 10.0.0.255, any source, protocol 17, destination port 5000 to 5009, any source port, of packets with ports.
 fn rule_10() -> Rule
     ensures { λ r. ⌜ given r ≡ rule10 ⌝ }
 {
     Rule {
         number: 10,
         action: 2,
-        low: [167772160, 0, 17, 5000, 0],
-        high: [167772415, 4294967295, 17, 5009, 65535],
+        low: [167772160, 0, 17, 5000, 0, 0],
+        high: [167772415, 4294967295, 17, 5009, 65535, 0],
     }
 }
 
@@ -57,8 +57,8 @@ fn rule_20() -> Rule
     Rule {
         number: 20,
         action: 3,
-        low: [167772160, 0, 0, 0, 0],
-        high: [167772287, 4294967295, 255, 65535, 65535],
+        low: [167772160, 0, 0, 0, 0, 0],
+        high: [167772287, 4294967295, 255, 65535, 65535, 1],
     }
 }
 

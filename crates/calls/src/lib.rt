@@ -58,8 +58,8 @@ fn arity(code: u64) -> usize {
         SWAP | SAME | CELLS | CHECK | PACKET | HEADER => 0,
         DELETE | READ => 1,
         ROOM | START => 2,
-        LOOKUP => 5,
-        INSERT => 12,
+        LOOKUP => 6,
+        INSERT => 14,
         _ => 18,
     }
 }
@@ -109,8 +109,8 @@ fn rule(given: [u32; 16]) -> Rule {
     Rule {
         number: given[0],
         action: given[1],
-        low: [given[2], given[4], given[6], given[8], given[10]],
-        high: [given[3], given[5], given[7], given[9], given[11]],
+        low: [given[2], given[4], given[6], given[8], given[10], given[12]],
+        high: [given[3], given[5], given[7], given[9], given[11], given[13]],
     }
 }
 
@@ -189,7 +189,7 @@ fn values(h: Header) -> [u32; 16] {
         p.protocol,
         p.destination_port,
         p.source_port,
-        0,
+        p.portless,
         0,
         0,
         0,
@@ -221,8 +221,8 @@ fn reading(r: Reading) -> [u32; 16] {
         h[3],
         l[4],
         h[4],
-        0,
-        0,
+        l[5],
+        h[5],
         0,
     ]
 }
@@ -254,7 +254,15 @@ fn check_of(words: &[u32]) -> bool {
 }
 
 fn lookup_of(words: &[u32], given: [u32; 16]) -> Found {
-    lookup::lookup(words, given[0], given[1], given[2], given[3], given[4])
+    lookup::lookup(
+        words,
+        given[0],
+        given[1],
+        given[2],
+        given[3],
+        given[4],
+        given[5],
+    )
 }
 
 fn packet_of(words: &[u32], bytes: &[u8]) -> Found {

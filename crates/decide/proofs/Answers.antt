@@ -8,13 +8,13 @@ use native.Mathlib.Omega.{arith}
 use lib.Dec.{leb, ltb}
 use lib.ListN.{length, getD, take, drop}
 use borrow.Author.Tests.{lt-ltb, le-ltb, le-leb, lt-leb, leb-true, leb-false, not-true, not-false}
-use Rattle.model.specs.Rules.{cells, rangesRight}
-use Rattle.model.specs.Table.{Kind, Rule, Table, fieldsFrom, cellsOf, within, ruleRight, stands, withRule, insertAnswer, deleteAnswer}
+use Rattle.model.specs.Rules.{cells}
+use Rattle.model.specs.Table.{Kind, Rule, Table, cellsOf, within, ruleRight, stands, withRule, insertAnswer, deleteAnswer}
 use Rattle.model.proofs.Edits.{insert-within}
 use Rattle.model.proofs.Limits.{from-within}
 use Rattle.rows.specs.Rows.{treeAt}
 use Rattle.table.specs.Rows.{ruleIn, tableIn, places, ahead}
-use Rattle.table.proofs.Laws.{rules-length, rule-right}
+use Rattle.table.proofs.Laws.{rules-length}
 use Rattle.layout.specs.Inner.{TableHeld}
 use Rattle.layout.proofs.Lent.{lent-cells}
 
@@ -28,13 +28,13 @@ module _ (k : Kind) (n c : ℕ) (rows row : List ℕ) (d : TableHeld k n rows) (
   pub into-1 : 65534 < getD row 0 0 → 1 ≡ insertAnswer k c (tableIn k n rows) (ruleIn (length (k .tops)) row 0)
   into-1 l = rw (lt-ltb 65534 (getD row 0 0) l)
 
-  module _ (l : getD row 0 0 ≤ 65534) (b : Bool) (eb : b ≡ rangesRight (fieldsFrom 0 (k .tops)) (ruleIn (length (k .tops)) row 0)) where
+  module _ (l : getD row 0 0 ≤ 65534) (b : Bool) (eb : b ≡ ruleRight k (ruleIn (length (k .tops)) row 0)) where
     pub into-2 : b ≡ false → 2 ≡ insertAnswer k c (tableIn k n rows) (ruleIn (length (k .tops)) row 0)
-    into-2 g = let z : ruleRight k R ≡ false = rule-right k row 0 ∙ sym eb ∙ g in rw (le-ltb 65534 (getD row 0 0) l, z)
+    into-2 g = let z : ruleRight k R ≡ false = sym eb ∙ g in rw (le-ltb 65534 (getD row 0 0) l, z)
 
     module _ (g : b ≡ true) where
       z : ruleRight k R ≡ true
-      z = rule-right k row 0 ∙ sym eb ∙ g
+      z = sym eb ∙ g
 
       pub into-3 : stands (getD row 0 0) (tableIn k n rows .rules) ≡ true → 3 ≡ insertAnswer k c (tableIn k n rows) (ruleIn (length (k .tops)) row 0)
       into-3 s = rw (le-ltb 65534 (getD row 0 0) l, z, s)

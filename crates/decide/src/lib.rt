@@ -77,7 +77,7 @@ pub fn insert_into(
     if 65534 < number {
         return refuse(1);
     }
-    if !table::right(row, 0, tops) {
+    if !table::right(row, 0, tops, shape) {
         return refuse(2);
     }
     let place = table::before(rows, n, tops, shape, number);

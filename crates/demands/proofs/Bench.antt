@@ -53,7 +53,7 @@ module _ {ws : List ℕ} {c : ℕ} (s : Is ws c rules) where
   -- of a row's values, none above its top
   row : (destination protocol port : ℕ) → destination ≤ 4294967295 → protocol ≤ 255 → port ≤ 65535 → lookup ws (asPacket (packet destination protocol port)) ≡ answerFor (decided (packet destination protocol port))
   row destination protocol port a b d =
-      lookup-is ipv4 ipv4-shaped ws (s .pass) (packet destination protocol port) (tops-right (asPacket (packet destination protocol port)) (record { destination-top = a; source-top = omega arith; protocol-top = b; destination-port-top = d; source-port-top = omega arith }))
+      lookup-is ipv4 ipv4-shaped ws (s .pass) (packet destination protocol port) (tops-right (asPacket (packet destination protocol port)) (record { destination-top = a; source-top = omega arith; protocol-top = b; destination-port-top = d; source-port-top = omega arith; portless-top = omega arith }))
       ∙ ap (λ (x : Table). foundOf ipv4 x (packet destination protocol port)) (s .table)
 
   all-rows : map (λ r. lookup ws (asPacket (r .asked))) rows ≡ map answerFor rows
@@ -73,16 +73,16 @@ module _ {ws : List ℕ} {c : ℕ} (s : Is ws c rules) where
 room : (c k : ℕ) → k ≤ c → _≡_ {A = ℕ} (cond (ltb c k) 6 0) 0
 room c k h = rw (le-ltb c k h)
 
-taken : (lent : List ℕ) (c : ℕ) → 40 ≤ c → c ≤ 65536 → size ipv4 c ≤ length lent → WithRoom lent c
+taken : (lent : List ℕ) (c : ℕ) → 54 ≤ c → c ≤ 65536 → size ipv4 c ≤ length lent → WithRoom lent c
 taken lent c a b l =
     let h = started lent c (omega arith) b l in
     let s = is-fresh lent c 1 h in
-    let r10 : insertAnswer ipv4 c alone rule10 ≡ 0 = room c 25 (omega arith) in
-    let r20 : insertAnswer ipv4 c alone rule20 ≡ 0 = room c 15 (omega arith) in
+    let r10 : insertAnswer ipv4 c alone rule10 ≡ 0 = room c 33 (omega arith) in
+    let r20 : insertAnswer ipv4 c alone rule20 ≡ 0 = room c 18 (omega arith) in
     let s10 = is-with s rule10 r10 in
     let s20 = is-with s rule20 r20 in
-    let q20 : insertAnswer ipv4 c (withRule rule10 alone) rule20 ≡ 0 = room c 40 a in
-    let q10 : insertAnswer ipv4 c (withRule rule20 alone) rule10 ≡ 0 = room c 40 a in
+    let q20 : insertAnswer ipv4 c (withRule rule10 alone) rule20 ≡ 0 = room c 54 a in
+    let q10 : insertAnswer ipv4 c (withRule rule20 alone) rule10 ≡ 0 = room c 54 a in
     let sb = is-with s10 rule20 q20 in
     let sb' = is-with s20 rule10 q10 in
     record {
@@ -100,14 +100,14 @@ taken lent c a b l =
       cells-again = counts (is-without sb 20 refl) ∙ ap (cellsOf ipv4) (starred .again) ∙ starred .cells10;
     }
 
-full : (lent : List ℕ) → size ipv4 39 ≤ length lent → WithoutRoom lent
+full : (lent : List ℕ) → size ipv4 53 ≤ length lent → WithoutRoom lent
 full lent l =
-    let s = is-fresh lent 39 1 (started lent 39 (omega arith) (omega arith) l) in
+    let s = is-fresh lent 53 1 (started lent 53 (omega arith) (omega arith) l) in
     record {
       first-10 = says s rule10;
       first-20 = says s rule20;
-      then-20 = says (is-with s rule10 refl) rule20 ∙ starred .full-39;
-      then-10 = says (is-with s rule20 refl) rule10 ∙ starred .full-39';
+      then-20 = says (is-with s rule10 refl) rule20 ∙ starred .full-53;
+      then-10 = says (is-with s rule20 refl) rule10 ∙ starred .full-53';
     }
 
 pub bench : StarredCalls

@@ -2,7 +2,7 @@
 -- Assumes nothing.
 use mathlib.Core.Path.{_≡_, refl, sym, ap, ap₂, subst, _∙_}
 use mathlib.Core.Logic.{_⊎_, inl, inr}
-use mathlib.Core.Bool.{true}
+use mathlib.Core.Bool.{true, _&&_}
 use mathlib.Core.List.{List, [], _∷_, _++_, map, append-assoc}
 use Prim.Native.Nat.{ℕ, suc, _+_, _-_, _*_, _≤_, _<_}
 use native.Mathlib.Omega.{arith}
@@ -12,9 +12,9 @@ use lib.ListN.{length, getD, drop, length-append, take-append-drop}
 use lib.Seq.{getD-drop, drop-drop}
 use borrow.Author.Tests.{ltb-true, ltb-false}
 use Rattle.model.specs.Lists.{In, Rising}
-use Rattle.model.specs.Rules.{Tree, cells}
-use Rattle.model.specs.Table.{Kind, Rule, Shaped, rowWords, front, numberOf, ruleRight, risingFrom, treeOf}
-use Rattle.model.proofs.Tests.{by-test, and-right}
+use Rattle.model.specs.Rules.{Tree, cells, rangesRight}
+use Rattle.model.specs.Table.{Kind, Rule, Shaped, rowWords, front, numberOf, fields, portsRight, ruleRight, risingFrom, treeOf}
+use Rattle.model.proofs.Tests.{by-test, and-left, and-right}
 use Rattle.model.proofs.Keep.{in-left, in-right}
 use Rattle.model.proofs.Limits.{rises, in-rising, from-within}
 use Rattle.cells.specs.Text.{frees, row, width, under, first, marks, belows, part}
@@ -26,12 +26,12 @@ use Rattle.layout.specs.Store.{cellsIn, tableOf, cellsGives}
 use Rattle.layout.proofs.Bridge.{bridge, stored-cells}
 use Rattle.layout.proofs.Sound.{sound as parts-of}
 use Rattle.cells.proofs.From.{text-stands, text-behind}
-use Rattle.demands.specs.Calls.{Passes, rulesIn, fieldCount, lowAt, highAt, topAt}
+use Rattle.demands.specs.Calls.{Passes, rulesIn, fieldCount, lowAt, highAt, topAt, FullPorts, PortsOnly}
 use Rattle.demands.specs.Links.{freeLink, walkLink}
 use Rattle.demands.specs.Check.{TreeFrom, cellsFrom, cellsUsed, SoundStore, Check}
 use Rattle.demands.proofs.Held.{cells-in, table-in, text-passes, room, right, begins-with, fits, in-use}
 use Rattle.demands.proofs.Decided.{tree-in}
-use Rattle.demands.proofs.Fields.{right-from}
+use Rattle.demands.proofs.Fields.{ports-say, right-from}
 use Rattle.demands.proofs.Links.{cellsOn, length-on, in-on, Laid, ruleOn, gives, reaches, many, follows}
 
 -- the numbers of the rules rise
@@ -46,8 +46,14 @@ rising-numbers b (r ∷ rs) h =
     above b (r ∷ rs) h y (inl e) = omega (arith, rises b r rs h .0)
     above b (r ∷ rs) h y (inr m) = let t = rises b r rs h in omega (arith, t .0, above (suc (r .number)) rs (t .2) y m)
 
+right-rest : (k : Kind) (r : Rule) → ruleRight k r ≡ true → (rangesRight (fields k) r && portsRight k r) ≡ true
+right-rest k r h = and-right (eqb (length (r .highs)) (fieldCount k)) _ (and-right (eqb (length (r .lows)) (fieldCount k)) _ h)
+
 right-ranges : (k : Kind) (r : Rule) → ruleRight k r ≡ true → (i : ℕ) → i < fieldCount k → (lowAt r i ≤ highAt r i) × (highAt r i ≤ topAt k i)
-right-ranges k r h i l = simp zero-add at (right-from r (k .tops) 0 (and-right (eqb (length (r .highs)) (fieldCount k)) _ (and-right (eqb (length (r .lows)) (fieldCount k)) _ h)) i l)
+right-ranges k r h i l = simp zero-add at (right-from r (k .tops) 0 (and-left _ _ (right-rest k r h)) i l)
+
+right-ports : (k : Kind) (r : Rule) → ruleRight k r ≡ true → PortsOnly k r ⊎ FullPorts k r
+right-ports k r h = ports-say k r .0 (and-right (rangesRight (fields k) r) _ (right-rest k r h))
 
 module _ (k : Kind) (s : Shaped k) (ws : List ℕ) (h : Passes k ws) where
   -- the number of cells, the tree in them, and where the two links stand
@@ -149,6 +155,7 @@ module _ (k : Kind) (s : Shaped k) (ws : List ℕ) (h : Passes k ws) where
         rising = rising-numbers 0 (rulesIn k ws) (w .rising);
         numbers = λ r m. in-rising 0 (rulesIn k ws) (w .rising) r m .1;
         ranges = λ r m. right-ranges k r (w .right r m);
+        ports = λ r m. right-ports k r (w .right r m);
         planted = subst (λ t. TreeFrom k ws (walkLink k ws) t) tree-is (rw walk-link (gives k ws C refl T (fieldCount k) 0 (0 + width T) deep-is laid));
         free = free;
         chained = rw free-link (follows k ws C refl (cells T) (C - cells T) past free-are (omega (arith, fit)));

@@ -22,7 +22,7 @@ use Rattle.lookup.specs.Walk.{lookupValues}
 use Rattle.lookup.proofs.Tree.{lookup-tree, begins-row}
 use Rattle.demands.proofs.Held.{room, right, fits}
 use Rattle.demands.proofs.Fields.{right-length}
-use Rattle.demands.proofs.Looked.{right-in}
+use Rattle.lookup.proofs.Steps.{right-in}
 
 -- what the rules of a table say of a packet's values
 abbrev pub foundOf : Kind → Table → List ℕ → Found

@@ -2,7 +2,7 @@
 -- Assumes nothing.
 use mathlib.Core.Path.{_≡_, refl, sym, ap, _∙_}
 use mathlib.Core.Logic.{_⊎_, inl, inr, ⊎-elim, _≢_}
-use mathlib.Core.Bool.{Bool, true, false, cond, not, _||_}
+use mathlib.Core.Bool.{Bool, true, false, cond, not, _&&_, _||_}
 use mathlib.Core.List.{List}
 use Prim.Native.Nat.{ℕ, _*_, _≤_, _<_}
 use native.Mathlib.Omega.{arith}
@@ -12,9 +12,9 @@ use lib.ListN.{length, getD, drop}
 use borrow.Author.Tests.{lt-ltb, ltb-true, ltb-false, leb-true, leb-false, eqb-true, eqb-false, eq-eqb, ne-eqb, not-true, not-false}
 use Rattle.model.specs.Lists.{In}
 use Rattle.model.specs.Rules.{rangesRight}
-use Rattle.model.specs.Table.{Kind, Rule, Table, Shaped, fields, ruleRight, packetRight, stands, withRule, cellsOf, insertAnswer, deleteAnswer, placeAnswer}
+use Rattle.model.specs.Table.{Kind, Rule, Table, Shaped, fields, portsRight, ruleRight, packetRight, stands, withRule, cellsOf, insertAnswer, deleteAnswer, placeAnswer}
 use Rattle.model.specs.Ipv4.{ipv4, ipv4-shaped}
-use Rattle.model.proofs.Tests.{by-test, never}
+use Rattle.model.proofs.Tests.{by-test, never, and-left, and-right}
 use Rattle.model.proofs.UpTo.{length-upTo}
 use Rattle.model.proofs.Limits.{standing, not-standing}
 use Rattle.header.specs.declared.Packet.{Packet}
@@ -24,13 +24,13 @@ use Rattle.header.specs.Facts.{Faulty, unreadable-when, within-tops}
 use Rattle.layout.specs.Store.{size, cellsIn, tableOf, roomFor, passes, unless, checked, startAnswer, insertSays, deleteSays, readSays, readGives, placeSays, placeGives, zeroRule, cellsSays, cellsGives}
 use Rattle.lookup.specs.declared.Found.{Found}
 use Rattle.lookup.specs.Walk.{refused, lookupIn, lookupValues, lookupPacket}
-use Rattle.demands.specs.Calls.{Passes, fieldCount, lowAt, highAt, topAt, NoRoom, AboveTop, valuesIn, Bytes, lookup}
+use Rattle.lookup.proofs.Steps.{wrong-11, right-in}
+use Rattle.demands.specs.Calls.{Passes, fieldCount, lowAt, highAt, topAt, FullPorts, PortsOnly, NoRoom, AboveTop, valuesIn, Bytes, lookup}
 use Rattle.demands.specs.Links.{Undecided}
-use Rattle.demands.specs.Demand1.{Refuses, refuses, goes-on, done, WrongRange, Spares, OnlyAnswer, Demand1}
-use Rattle.demands.proofs.Fields.{wrong-from, right-from, not-above, one-above}
+use Rattle.demands.specs.Demand1.{Refuses, refuses, goes-on, done, WrongRange, WrongPorts, Spares, OnlyAnswer, Demand1}
+use Rattle.demands.proofs.Fields.{says-no, ports-say, wrong-from, right-from, not-above, one-above}
 use Rattle.demands.proofs.Held.{Leaves, refused-keeps, start-leaves, insert-leaves, delete-leaves}
 use Rattle.demands.proofs.Room.{no-room, room-there}
-use Rattle.demands.proofs.Looked.{wrong-11, right-in}
 use Rattle.demands.proofs.Lost.{nine-or-done, undecided-9}
 use Rattle.demands.proofs.Packets.{tops-right, unreadable-7, readable-is, by-header}
 use Rattle.demands.proofs.Tally.{tally-before, tally-13, tally-zeros, tally-kept}
@@ -58,23 +58,31 @@ module _ (k : Kind) where
 
   -- 2
   module _ (r : Rule) (l : length (r .lows) ≡ fieldCount k) (h : length (r .highs) ≡ fieldCount k) where
-    ranges : ruleRight k r ≡ rangesRight (fields k) r
+    ranges : ruleRight k r ≡ (rangesRight (fields k) r && portsRight k r)
     ranges = simp (eq-eqb _ (fieldCount k) l, eq-eqb _ (fieldCount k) h)
 
-    wrong : not (ruleRight k r) ≡ true → WrongRange k r
-    wrong e = simp zero-add at (wrong-from r (k .tops) 0 (sym ranges ∙ not-true (ruleRight k r) e))
+    wrong : not (ruleRight k r) ≡ true → WrongRange k r ⊎ WrongPorts k r
+    wrong e =
+        let f = sym ranges ∙ not-true (ruleRight k r) e in
+        by-test (rangesRight (fields k) r)
+        (λ t. let g : portsRight k r ≡ false = rw t at f in inr (λ x. says-no (portsRight k r) (ports-say k r) g (inr x), λ x. says-no (portsRight k r) (ports-say k r) g (inl x)))
+        (λ t. inl (simp zero-add at (wrong-from r (k .tops) 0 t)))
 
-    not-wrong : not (ruleRight k r) ≡ false → WrongRange k r → ⊥
-    not-wrong e w = go (simp zero-add at (right-from r (k .tops) 0 (sym ranges ∙ not-false (ruleRight k r) e) (w .0) (w .1))) (w .2)
-      where
-        go : (lowAt r (w .0) ≤ highAt r (w .0)) × (highAt r (w .0) ≤ topAt k (w .0)) → (highAt r (w .0) < lowAt r (w .0)) ⊎ (topAt k (w .0) < highAt r (w .0)) → ⊥
-        go g (inl x) = omega (arith, g .0)
-        go g (inr x) = omega (arith, g .1)
+    crossed : (i : ℕ) → (lowAt r i ≤ highAt r i) × (highAt r i ≤ topAt k i) → (highAt r i < lowAt r i) ⊎ (topAt k i < highAt r i) → ⊥
+    crossed i g (inl x) = omega (arith, g .0)
+    crossed i g (inr x) = omega (arith, g .1)
+
+    all-right : not (ruleRight k r) ≡ false → (rangesRight (fields k) r && portsRight k r) ≡ true
+    all-right e = sym ranges ∙ not-false (ruleRight k r) e
+
+    not-wrong : not (ruleRight k r) ≡ false → WrongRange k r ⊎ WrongPorts k r → ⊥
+    not-wrong e (inl w) = crossed (w .0) (simp zero-add at (right-from r (k .tops) 0 (and-left _ _ (all-right e)) (w .0) (w .1))) (w .2)
+    not-wrong e (inr w) = ⊎-elim (λ (x : PortsOnly k r). w .1 x) (λ (x : FullPorts k r). w .0 x) (ports-say k r .0 (and-right (rangesRight (fields k) r) _ (all-right e)))
 
   -- 1, 3, 5, 6 and 4
   insert-lines : (c : ℕ) (t : Table) (r : Rule) → length (r .lows) ≡ fieldCount k → length (r .highs) ≡ fieldCount k
       → Refuses 1 (65534 < r .number)
-      (Refuses 2 (WrongRange k r)
+      (Refuses 2 (WrongRange k r ⊎ WrongPorts k r)
       (Refuses 3 ((s : Rule) × In s (t .rules) × (s .number ≡ r .number))
       (Refuses 5 (k .most ≤ length (t .rules))
       (Refuses 6 (c < cellsOf k (withRule r t))

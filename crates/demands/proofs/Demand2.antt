@@ -23,7 +23,7 @@ use Rattle.header.specs.declared.Header.the-variants.{Values}
 use Rattle.header.specs.Header.{headerOf}
 use Rattle.header.specs.Facts.{WithinTops, within-tops}
 use Rattle.ipv4.specs.declared.Rule.{Rule as Given}
-use Rattle.ipv4.specs.Rule.{five, given}
+use Rattle.ipv4.specs.Rule.{six, given}
 use Rattle.layout.specs.Store.{cellsIn, tableOf, startAnswer, startWords, insertSays, insertWords, deleteSays, deleteWords, readSays, readGives, placeSays, placeGives, cellsGives}
 use Rattle.lookup.specs.Walk.{lookupValues, lookupPacket}
 use Rattle.demands.specs.Calls.{Passes, rulesIn, defaultIn, everyIn, fieldCount, valuesIn, Bytes, lookup}
@@ -132,14 +132,14 @@ module _ (k : Kind) (s : Shaped k) where
           (suc (t .0), e, placed-at (suc (t .0)) e .2 ∙ ap (λ i. getD R i (defaultRule k (tableOf k ws .action))) z ∙ t .2);
     }
 
--- THE LIBRARY'S RULES as structs: five numbers are read of each array, which has no more
-five-one : (xs ys : List ℕ) → length xs ≡ fieldCount ipv4 → length ys ≡ fieldCount ipv4 → five xs ≡ five ys → xs ≡ ys
-five-one xs ys l m e = upTo-is 0 xs (fieldCount ipv4) (λ i. getD xs i 0) l (λ i h. refl) ∙ e ∙ sym (upTo-is 0 ys (fieldCount ipv4) (λ i. getD ys i 0) m (λ i h. refl))
+-- THE LIBRARY'S RULES as structs: six numbers are read of each array, which has no more
+six-one : (xs ys : List ℕ) → length xs ≡ fieldCount ipv4 → length ys ≡ fieldCount ipv4 → six xs ≡ six ys → xs ≡ ys
+six-one xs ys l m e = upTo-is 0 xs (fieldCount ipv4) (λ i. getD xs i 0) l (λ i h. refl) ∙ e ∙ sym (upTo-is 0 ys (fieldCount ipv4) (λ i. getD ys i 0) m (λ i h. refl))
 
 one-struct : (g h : Given) → AllEnds ipv4 g → AllEnds ipv4 h → given g ≡ given h → g ≡ h
 one-struct g h a b e =
-    let x = five-one (g .low) (h .low) (a .lows) (b .lows) (ap (λ (r : Rule). r .lows) e) in
-    let y = five-one (g .high) (h .high) (a .highs) (b .highs) (ap (λ (r : Rule). r .highs) e) in
+    let x = six-one (g .low) (h .low) (a .lows) (b .lows) (ap (λ (r : Rule). r .lows) e) in
+    let y = six-one (g .high) (h .high) (a .highs) (b .highs) (ap (λ (r : Rule). r .highs) e) in
     λ i. record { number = e i .number; action = e i .action; low = x i; high = y i }
 
 -- THE LIBRARY'S LOOKUPS

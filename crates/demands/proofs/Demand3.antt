@@ -23,7 +23,7 @@ use Rattle.lookup.specs.Walk.{lookupValues, lookupPacket}
 use Rattle.demands.specs.Calls.{Passes, rulesIn, everyIn, fieldCount, valuesIn, Bytes, lookup}
 use Rattle.demands.specs.Demand3.{Edit, inserts, deletes, wordsAfter, run, History, wordsLeft, SameRules, Twins, Reads, Demand3}
 use Rattle.demands.proofs.Held.{Leaves, right, begins-with, refused-keeps, start-leaves, insert-leaves, delete-leaves}
-use Rattle.demands.proofs.Looked.{wrong-11}
+use Rattle.lookup.proofs.Steps.{wrong-11}
 use Rattle.demands.proofs.Packets.{tops-right, unreadable-7, readable-is, by-header}
 use Rattle.demands.proofs.Decided.{foundOf, lookup-is}
 use Rattle.demands.proofs.Counted.{counts, counts-each}

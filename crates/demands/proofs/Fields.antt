@@ -1,4 +1,4 @@
--- The fields one by one: a rule holds a packet's values exactly where each of its ranges holds the value, its ranges are right exactly where each of them is, and values are right where none is above its top.
+-- The fields one by one: a rule holds a packet's values exactly where each of its ranges holds the value, its ranges are right exactly where each of them is, its ports are where it asks for them only of packets that have them, and values are right where none is above its top.
 -- Assumes nothing.
 use mathlib.Core.Path.{_≡_, refl, sym, subst, _∙_}
 use mathlib.Core.Logic.{_⊎_, inl, inr}
@@ -11,9 +11,10 @@ use lib.Dec.{leb, eqb}
 use lib.ListN.{length, getD}
 use borrow.Author.Tests.{leb-true, leb-false, le-leb, eqb-true, eq-eqb}
 use Rattle.model.specs.Rules.{holds, rangesRight, withinTops}
-use Rattle.model.specs.Table.{Kind, Rule, fieldsFrom, fields, packetRight}
+use Rattle.model.specs.Table.{Kind, Rule, fieldsFrom, fields, asksFor, portsRight, packetRight}
 use Rattle.model.proofs.Tests.{by-test, never, and-left, and-right, and-both}
-use Rattle.demands.specs.Calls.{fieldCount, valueAt, lowAt, highAt, topAt, HoldsAll, AboveTop}
+use Rattle.header.specs.Says.{Says, says-eq, says-or, says-and}
+use Rattle.demands.specs.Calls.{fieldCount, valueAt, lowAt, highAt, topAt, HoldsAll, AsksTo, FullPorts, PortsOnly, AboveTop}
 
 -- THE RANGES of a rule and a packet's values
 module _ (vs : List ℕ) (r : Rule) where
@@ -72,6 +73,18 @@ module _ (r : Rule) where
       let g = and-right (leb (highAt r i) t) _ (and-right (leb (lowAt r i) (highAt r i)) _ h) in
       let z : suc i + j ≡ i + suc j = omega arith in
       subst (λ (n : ℕ). (lowAt r n ≤ highAt r n) × (highAt r n ≤ getD ts j 0)) z (right-from ts (suc i) g j (omega arith))
+
+-- THE PORTS of a rule
+module _ (k : Kind) (r : Rule) where
+  asks-say : (i n : ℕ) → Says (asksFor r i 0 n) (AsksTo r i n)
+  asks-say i n = says-and _ _ (says-eq _ _) (says-eq _ _)
+
+  pub ports-say : Says (portsRight k r) (PortsOnly k r ⊎ FullPorts k r)
+  ports-say = says-or _ _ (asks-say _ _) (says-and _ _ (asks-say _ _) (asks-say _ _))
+
+-- what a test says that is false does not hold
+pub says-no : {P : Type 0} (b : Bool) → Says b P → b ≡ false → P → ⊥
+says-no b s e p = never (sym (s .1 p) ∙ e)
 
 -- THE TOPS: values over the fields from i on, none above its top
 module _ (vs : List ℕ) where

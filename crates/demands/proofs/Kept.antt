@@ -25,7 +25,7 @@ use Rattle.tally.specs.Tally.{begunIn, tallyAnswer, talliesLeft, cleared}
 use Rattle.demands.specs.Calls.{Passes, rulesIn, everyIn, valuesIn}
 use Rattle.demands.specs.Tally.{keyAt, HoldsAt, NoPlace, WellKept, Dropped}
 use Rattle.demands.proofs.Held.{right, insert-leaves, delete-leaves}
-use Rattle.demands.proofs.Looked.{wrong-11}
+use Rattle.lookup.proofs.Steps.{wrong-11}
 use Rattle.demands.proofs.Packets.{unreadable-7, readable-is, by-header}
 use Rattle.demands.proofs.Decided.{lookup-is}
 use Rattle.demands.proofs.Tally.{by-look}

@@ -18,4 +18,5 @@ pub mod Bench
 pub mod Tallied
 pub mod Named
 pub mod Scan
+pub mod Portless
 pub mod Shown

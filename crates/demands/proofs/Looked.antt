@@ -1,4 +1,4 @@
--- A lookup by values in a store of a kind: 11 and 9 at once, and what is left to the walk.
+-- A lookup in a store of a kind: 9 at once, and what is left to the walk.
 -- Assumes nothing.
 use mathlib.Core.Path.{_≡_}
 use mathlib.Core.Bool.{true, false}
@@ -7,21 +7,12 @@ use Prim.Native.Nat.{ℕ}
 use lib.Dec.{eqb}
 use lib.ListN.{getD}
 use borrow.Author.Tests.{eq-eqb}
-use Rattle.model.specs.Table.{Kind, packetRight}
+use Rattle.model.specs.Table.{Kind}
 use Rattle.model.proofs.Tests.{by-test}
 use Rattle.layout.specs.Store.{cellsIn, roomFor}
-use Rattle.lookup.specs.Walk.{walkOf, refused, partIn, foundIn, lookupIn, lookupValues}
+use Rattle.lookup.specs.Walk.{walkOf, refused, partIn, foundIn, lookupIn}
 
 module _ (k : Kind) (ws vs : List ℕ) where
-  -- a value is above its top, or none is
-  pub wrong-11 : packetRight k vs ≡ false → lookupValues k ws vs ≡ refused 11
-  unfolding lookupValues
-  wrong-11 e = rw e
-
-  pub right-in : packetRight k vs ≡ true → lookupValues k ws vs ≡ lookupIn k ws vs
-  unfolding lookupValues
-  right-in e = rw e
-
   -- c is outside its limits, or the words are too few for it
   pub roomless-9 : roomFor k (cellsIn ws) ws ≡ false → lookupIn k ws vs ≡ refused 9
   unfolding lookupIn

@@ -1,4 +1,4 @@
--- The library's packets: a record of five named numbers, whose values are right where they are within the tops; and the bytes of a packet, by what their header is.
+-- The library's packets: a record of six named numbers, whose values are right where they are within the tops; and the bytes of a packet, by what their header is.
 -- Assumes nothing.
 use mathlib.Core.Path.{_≡_, refl, sym}
 use mathlib.Core.Bool.{true}
@@ -17,7 +17,7 @@ use Rattle.lookup.proofs.Steps.{no-values, by-values}
 use Rattle.demands.specs.Calls.{valuesIn, lookup}
 
 pub tops-right : (p : Packet) → WithinTops p → packetRight ipv4 (valuesIn p) ≡ true
-tops-right p t = simp (le-leb _ _ (t .destination-top), le-leb _ _ (t .source-top), le-leb _ _ (t .protocol-top), le-leb _ _ (t .destination-port-top), le-leb _ _ (t .source-port-top))
+tops-right p t = simp (le-leb _ _ (t .destination-top), le-leb _ _ (t .source-top), le-leb _ _ (t .protocol-top), le-leb _ _ (t .destination-port-top), le-leb _ _ (t .source-port-top), le-leb _ _ (t .portless-top))
 
 -- THE LOOKUP BY A PACKET: 7 where the header gives no values, and else the lookup of its values
 pub unreadable-7 : (ws bytes : List ℕ) → headerOf bytes ≡ Unreadable → lookupPacket ws bytes ≡ refused 7

@@ -25,7 +25,7 @@ use Rattle.header.specs.Facts.{WithinTops}
 use Rattle.rows.specs.Rows.{lowIn, highIn}
 use Rattle.ipv4.specs.declared.Rule.{Rule as Given}
 use Rattle.table.specs.Rows.{ruleIn, tableIn}
-use Rattle.ipv4.specs.Rule.{five, given}
+use Rattle.ipv4.specs.Rule.{six, given}
 use Rattle.layout.specs.Store.{rowsOf, tableOf}
 use Rattle.lookup.specs.declared.Found.{Found}
 use Rattle.lookup.specs.Walk.{lookupPacket}
@@ -36,7 +36,7 @@ use Rattle.demands.specs.Calls.{Passes, rulesIn, defaultIn, fieldCount, 
 use Rattle.demands.specs.Scan.{scan, Agree, recordOf, recordsOf, Decides, NamesRule, Scan}
 use Rattle.demands.proofs.Held.{right}
 use Rattle.demands.proofs.Fields.{not-above}
-use Rattle.demands.proofs.Looked.{wrong-11}
+use Rattle.lookup.proofs.Steps.{wrong-11}
 use Rattle.demands.proofs.Packets.{tops-right, readable-is}
 use Rattle.demands.proofs.Decided.{lookup-is}
 use Rattle.demands.proofs.Named.{scans}
@@ -126,14 +126,14 @@ packet-agrees : (ws : List ℕ) → Passes ipv4 ws → (records : List Given) �
 packet-agrees ws h records same bytes p e = rw (readable-is ws bytes p e) (agree ws h records same p)
 
 -- THE STORE'S OWN TABLE: a record holds as many ends as a rule of it
-five-is : (xs : List ℕ) → length xs ≡ fieldCount ipv4 → five xs ≡ xs
-five-is xs l = sym (upTo-is 0 xs (fieldCount ipv4) (λ i. getD xs i 0) l (λ i h. refl))
+six-is : (xs : List ℕ) → length xs ≡ fieldCount ipv4 → six xs ≡ xs
+six-is xs l = sym (upTo-is 0 xs (fieldCount ipv4) (λ i. getD xs i 0) l (λ i h. refl))
 
 given-back : (rows : List ℕ) (j : ℕ) → given (recordOf (ruleIn (fieldCount ipv4) rows j)) ≡ ruleIn (fieldCount ipv4) rows j
 given-back rows j =
     let n = fieldCount ipv4 in
-    let a = five-is (ruleIn n rows j .lows) (length-upTo n (λ f. lowIn rows f j)) in
-    let b = five-is (ruleIn n rows j .highs) (length-upTo n (λ f. highIn rows f j)) in
+    let a = six-is (ruleIn n rows j .lows) (length-upTo n (λ f. lowIn rows f j)) in
+    let b = six-is (ruleIn n rows j .highs) (length-upTo n (λ f. highIn rows f j)) in
     λ i. record { number = ruleIn n rows j .number; action = ruleIn n rows j .action; lows = a i; highs = b i }
 
 back : (rs : List Rule) → ((r : Rule) → In r rs → given (recordOf r) ≡ r) → map given (map recordOf rs) ≡ rs

@@ -1,4 +1,4 @@
--- THE STARRED LIST of document 01, "Bench table", carried through the calls: a start over any words that are enough for c cells, the inserts, the lookups. c is any number from 40 on, and 39 where document 01 says so. (Its rules and rows are written out in model/specs/Bench.antt, and its two prefixes proved in prefix/specs/Examples.antt.)
+-- THE STARRED LIST of document 01, "Bench table", carried through the calls: a start over any words that are enough for c cells, the inserts, the lookups. c is any number from 54 on, and 53 where an insert gets 6: P4 has each count with one field more. (Its rules and rows are written out in model/specs/Bench.antt, and its two prefixes proved in prefix/specs/Examples.antt.)
 -- `Starred` is what is claimed; proofs/Bench.antt proves it. Assumes nothing.
 use mathlib.Core.Path.{_≡_}
 use mathlib.Core.List.{List, map}
@@ -32,16 +32,16 @@ module _ (lent : List ℕ) (c : ℕ) where
   abbrev pub wordsAgain : List ℕ
   wordsAgain = deleteWords ipv4 wordsBoth 20
 
--- the five values of a row as a packet's record, and what a lookup of them is to answer: 0, and the row's rule, action and reads
+-- the values of a row as a packet's record, and what a lookup of them is to answer: 0, and the row's rule, action and reads
 abbrev pub asPacket : List ℕ → Packet
-asPacket vs = record { destination = getD vs 0 0; source = getD vs 1 0; protocol = getD vs 2 0; «destination_port» = getD vs 3 0; «source_port» = getD vs 4 0 }
+asPacket vs = record { destination = getD vs 0 0; source = getD vs 1 0; protocol = getD vs 2 0; «destination_port» = getD vs 3 0; «source_port» = getD vs 4 0; portless = getD vs 5 0 }
 
 abbrev pub answerFor : Row → Found
 answerFor r = record { answer = 0; rule = r .rule; action = r .action; reads = r .reads }
 
--- with 40 cells or more
+-- with 54 cells or more
 pub record WithRoom (lent : List ℕ) (c : ℕ) : Type 0 where
-  -- the calls are taken, "with 40 it is taken", in whichever order
+  -- the calls are taken, in whichever order
   pub start : startAnswer ipv4 lent c ≡ 0
   pub first-10 : insertSays ipv4 (wordsFresh lent c) rule10 ≡ 0
   pub first-20 : insertSays ipv4 (wordsFresh lent c) rule20 ≡ 0
@@ -50,23 +50,23 @@ pub record WithRoom (lent : List ℕ) (c : ℕ) : Type 0 where
   pub goes : deleteSays ipv4 (wordsBoth lent c) 20 ≡ 0
   -- the seven lookups, row by row
   pub lookups : map (λ r. lookup (wordsBoth lent c) (asPacket (r .asked))) rows ≡ map answerFor rows
-  -- "Cells: rule 20 alone 15; rule 10 alone 25; both 40, in whichever order they came; after rule 20 goes again, 25"
-  pub cells-20 : cellsGives ipv4 (words20 lent c) ≡ 15
-  pub cells-10 : cellsGives ipv4 (words10 lent c) ≡ 25
-  pub cells-both : cellsGives ipv4 (wordsBoth lent c) ≡ 40
-  pub cells-both' : cellsGives ipv4 (wordsBoth' lent c) ≡ 40
-  pub cells-again : cellsGives ipv4 (wordsAgain lent c) ≡ 25
+  -- the cells: rule 20 alone 18; rule 10 alone 33; "the bench table 54", in whichever order they came; after rule 20 goes again, 33
+  pub cells-20 : cellsGives ipv4 (words20 lent c) ≡ 18
+  pub cells-10 : cellsGives ipv4 (words10 lent c) ≡ 33
+  pub cells-both : cellsGives ipv4 (wordsBoth lent c) ≡ 54
+  pub cells-both' : cellsGives ipv4 (wordsBoth' lent c) ≡ 54
+  pub cells-again : cellsGives ipv4 (wordsAgain lent c) ≡ 33
 
--- "With c = 39 the second insert gets 6", in whichever order
+-- with c = 53 the second insert gets 6, in whichever order
 pub record WithoutRoom (lent : List ℕ) : Type 0 where
-  pub first-10 : insertSays ipv4 (wordsFresh lent 39) rule10 ≡ 0
-  pub first-20 : insertSays ipv4 (wordsFresh lent 39) rule20 ≡ 0
-  pub then-20 : insertSays ipv4 (words10 lent 39) rule20 ≡ 6
-  pub then-10 : insertSays ipv4 (words20 lent 39) rule10 ≡ 6
+  pub first-10 : insertSays ipv4 (wordsFresh lent 53) rule10 ≡ 0
+  pub first-20 : insertSays ipv4 (wordsFresh lent 53) rule20 ≡ 0
+  pub then-20 : insertSays ipv4 (words10 lent 53) rule20 ≡ 6
+  pub then-10 : insertSays ipv4 (words20 lent 53) rule10 ≡ 6
 
 pub record StarredCalls : Type 0 where
-  pub taken : (lent : List ℕ) (c : ℕ) → 40 ≤ c → c ≤ 65536 → size ipv4 c ≤ length lent → WithRoom lent c
-  pub full : (lent : List ℕ) → size ipv4 39 ≤ length lent → WithoutRoom lent
+  pub taken : (lent : List ℕ) (c : ℕ) → 54 ≤ c → c ≤ 65536 → size ipv4 c ≤ length lent → WithRoom lent c
+  pub full : (lent : List ℕ) → size ipv4 53 ≤ length lent → WithoutRoom lent
   -- "Prefix 10.0.0.0 of length 24 gives 167,772,160 to 167,772,415; 10.0.0.1 of length 24 gets 10"
   pub prefix : rangeOf 167772160 24 ≡ record { answer = 0; low = 167772160; high = 167772415 }
   pub no-prefix : rangeOf 167772161 24 ≡ record { answer = 10; low = 0; high = 0 }

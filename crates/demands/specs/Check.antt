@@ -1,6 +1,7 @@
 -- THE STORE CHECK in plain facts: it "says yes exactly when the words hold a table within these limits, its tree, and every other cell on the free chain once". `passes` of layout/specs/Store.antt compares the words with the text that they should be, which also says in which cell each location stands. Who does not want to know that finds here what follows by the links alone.
 -- `Check` is what is claimed, of any kind of store; proofs/Check.antt proves it. Assumes nothing.
 use mathlib.Core.Path.{_≡_}
+use mathlib.Core.Logic.{_⊎_}
 use mathlib.Core.Bool.{true}
 use mathlib.Core.List.{List, [], _∷_, _++_, map}
 use Prim.Native.Nat.{ℕ, _+_, _≤_, _<_}
@@ -10,7 +11,7 @@ use Rattle.model.specs.Rules.{Tree, names, stop, loc}
 use Rattle.model.specs.Table.{Kind, Rule, Table, numberOf, treeOf, cellsOf, within}
 use Rattle.table.specs.Rows.{ruleIn}
 use Rattle.layout.specs.Store.{size, text, cellsIn, rowsOf, tableOf, cellsGives}
-use Rattle.demands.specs.Calls.{Passes, rulesIn, fieldCount, lowAt, highAt, topAt}
+use Rattle.demands.specs.Calls.{Passes, rulesIn, fieldCount, lowAt, highAt, topAt, FullPorts, PortsOnly}
 use Rattle.demands.specs.Links.{freeLink, walkLink, endAt, nextAt, downAt}
 
 -- following `next` and `down` from cell j gives this tree: a location's end, the tree under it and the rest of its chain; what is below a location of the last field is where the row of its rule begins among the rows, the default's at 0
@@ -35,7 +36,7 @@ abbrev pub cellsUsed : Kind → List ℕ → List ℕ
 cellsUsed k ws = cellsFrom k ws (walkLink k ws) (treeOf k (tableOf k ws))
 
 pub record SoundStore (k : Kind) (ws : List ℕ) : Type 0 where
-  -- "A store of c cells (5 to 65,536) takes 1,024 + 8 × c words"
+  -- "A store of c cells (5 to 65,536) takes 1,024 + 8 × c words"; by P4 "The least c becomes 6"
   pub least : fieldCount k ≤ cellsIn ws
   pub most : cellsIn ws ≤ 65536
   pub long : size k (cellsIn ws) ≤ length ws
@@ -46,6 +47,8 @@ pub record SoundStore (k : Kind) (ws : List ℕ) : Type 0 where
   pub rising : Rising (map numberOf (rulesIn k ws))
   pub numbers : (r : Rule) → In r (rulesIn k ws) → r .number ≤ 65534
   pub ranges : (r : Rule) → In r (rulesIn k ws) → (i : ℕ) → i < fieldCount k → (lowAt r i ≤ highAt r i) × (highAt r i ≤ topAt k i)
+  -- P4, "the store check asks this too": a rule whose port ranges aren't both full asks for 0 to 0 in field 6
+  pub ports : (r : Rule) → In r (rulesIn k ws) → PortsOnly k r ⊎ FullPorts k r
   -- "its tree"
   pub planted : TreeFrom k ws (walkLink k ws) (treeOf k (tableOf k ws))
   -- "and every other cell on the free chain once": each cell is one of the tree's or one of the free chain's, and these are c in all, so none comes twice

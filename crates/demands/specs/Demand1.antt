@@ -21,7 +21,7 @@ use Rattle.lookup.specs.declared.Found.{Found}
 use Rattle.lookup.specs.Walk.{lookupPacket}
 use Rattle.tally.specs.declared.Tallies.{Tallies}
 use Rattle.tally.specs.Tally.{tallyAnswer, talliesLeft}
-use Rattle.demands.specs.Calls.{Passes, rulesIn, fieldCount, lowAt, highAt, topAt, NoRoom, AboveTop, valuesIn, Bytes, lookup}
+use Rattle.demands.specs.Calls.{Passes, rulesIn, fieldCount, lowAt, highAt, topAt, FullPorts, PortsOnly, NoRoom, AboveTop, valuesIn, Bytes, lookup}
 use Rattle.demands.specs.Links.{Undecided}
 use Rattle.demands.specs.Tally.{NoPlace}
 
@@ -36,6 +36,10 @@ done answer = answer ≡ 0
 -- 2: "a low end above its high end, or a high end above the top"
 abbrev pub WrongRange : Kind → Rule → Type 0
 WrongRange k r = (i : ℕ) × (i < fieldCount k) × ((highAt r i < lowAt r i) ⊎ (topAt k i < highAt r i))
+
+-- "2 also for a narrow port range with anything but 0 to 0 in field 6"
+abbrev pub WrongPorts : Kind → Rule → Type 0
+WrongPorts k r = (FullPorts k r → ⊥) × (PortsOnly k r → ⊥)
 
 -- 3, and 4 where it does not hold: "number already there"
 abbrev pub There : Kind → ℕ → List ℕ → Type 0
@@ -60,12 +64,12 @@ pub record Demand1 : Type 0 where
   -- START a store of c cells over the words ws, with a default of the action a
   pub start : (ws : List ℕ) (c : ℕ) → Refuses 8 (NoRoom ipv4 c ws) done (startAnswer ipv4 ws c)
   pub start-spares : (ws : List ℕ) (c a : ℕ) → Spares ipv4 c (startAnswer ipv4 ws c) ws (startWords ipv4 ws c a)
-  -- INSERT the rule r: "Order for insert: 9, 1, 2, 3, 5, 6." A caller's rule, a struct with two arrays, always has five low and five high ends.
+  -- INSERT the rule r: "Order for insert: 9, 1, 2, 3, 5, 6." A caller's rule, a struct with two arrays, always has six low and six high ends.
   pub all-ends : (g : Given) → (length (given g .lows) ≡ fieldCount ipv4) × (length (given g .highs) ≡ fieldCount ipv4)
   pub insert : (ws : List ℕ) (r : Rule) → length (r .lows) ≡ fieldCount ipv4 → length (r .highs) ≡ fieldCount ipv4
       → Refuses 9 (Passes ipv4 ws → ⊥)
       (Refuses 1 (65534 < r .number)
-      (Refuses 2 (WrongRange ipv4 r)
+      (Refuses 2 (WrongRange ipv4 r ⊎ WrongPorts ipv4 r)
       (Refuses 3 (There ipv4 (r .number) ws)
       (Refuses 5 (ipv4 .most ≤ length (rulesIn ipv4 ws))
       (Refuses 6 (cellsIn ws < cellsOf ipv4 (withRule r (tableOf ipv4 ws)))

@@ -1,4 +1,4 @@
--- DEMAND 2. "In a store that the store check passes, a lookup names the rule with the least number among those whose five ranges all hold the packet's five values, the default rule included. Those values are what RFC 791, RFC 768 and RFC 9293 put in the header, with the port rule of document 01. An accepted insert adds that rule, an accepted delete takes it out, and every other rule stays."
+-- DEMAND 2. "In a store that the store check passes, a lookup names the rule with the least number among those whose five ranges all hold the packet's five values, the default rule included. Those values are what RFC 791, RFC 768 and RFC 9293 put in the header, with the port rule of document 01. An accepted insert adds that rule, an accepted delete takes it out, and every other rule stays." By P4 "Demands 2 and 3 now read six fields", and the port rule is also what field 6 says (Portless.antt).
 -- `Demand2` is what is claimed; proofs/Demand2.antt proves it. Assumes nothing.
 use mathlib.Core.Path.{_≡_}
 use mathlib.Core.Logic.{_⊎_, _↔_, _≢_}
@@ -76,12 +76,12 @@ pub record Demand2 : Type 0 where
   pub delete : (ws : List ℕ) (n : ℕ) → deleteSays ipv4 ws n ≡ 0 → Edited ipv4 ws (deleteWords ipv4 ws n) (λ s. In s (rulesIn ipv4 ws) × (s .number ≢ n))
   -- what all edits begin with
   pub start : (ws : List ℕ) (c a : ℕ) → startAnswer ipv4 ws c ≡ 0 → Fresh ipv4 c a (startWords ipv4 ws c a)
-  -- "The default alone takes 5 cells", one for each field. "Deleting never needs more cells than before."
+  -- By P4 "the default alone takes 6 cells", one for each field. "Deleting never needs more cells than before."
   pub start-cells : (ws : List ℕ) (c a : ℕ) → startAnswer ipv4 ws c ≡ 0 → cellsGives ipv4 (startWords ipv4 ws c a) ≡ fieldCount ipv4
   pub delete-cells : (ws : List ℕ) (n : ℕ) → deleteSays ipv4 ws n ≡ 0 → cellsGives ipv4 (deleteWords ipv4 ws n) ≤ cellsGives ipv4 ws
   -- and a rule that is read is the store's rule of that number
   pub read : (ws : List ℕ) (n : ℕ) → readSays ipv4 ws n ≡ 0 → In (readGives ipv4 ws n) (everyIn ipv4 ws) × (readGives ipv4 ws n .number ≡ n)
   -- and place by place all rules are read
   pub rule-at : (ws : List ℕ) → Listed ipv4 ws
-  -- A caller gets it as a struct with two arrays of five ends, of which the promise says what rule it is: no second such struct is the same rule
+  -- A caller gets it as a struct with two arrays of six ends, of which the promise says what rule it is: no second such struct is the same rule
   pub read-one : (g h : Given) → AllEnds ipv4 g → AllEnds ipv4 h → given g ≡ given h → g ≡ h

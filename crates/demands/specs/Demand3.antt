@@ -1,4 +1,4 @@
--- DEMAND 3. "Take two fresh stores and any two runs of edits, refused ones among them, that leave the same rules and the same default. Every packet then gets the same answer and the same count of reads from both, and both use the same number of cells. The count is, summed over the fields, one plus the distinct ends, as document 01 has them, below the packet's value, taken over the rules that hold its earlier values."
+-- DEMAND 3. "Take two fresh stores and any two runs of edits, refused ones among them, that leave the same rules and the same default. Every packet then gets the same answer and the same count of reads from both, and both use the same number of cells. The count is, summed over the fields, one plus the distinct ends, as document 01 has them, below the packet's value, taken over the rules that hold its earlier values." By P4 "Demands 2 and 3 now read six fields".
 -- `Demand3` is what is claimed; proofs/Demand3.antt proves it. Assumes nothing.
 use mathlib.Core.Path.{_≡_}
 use mathlib.Core.Logic.{_⊎_, _↔_}

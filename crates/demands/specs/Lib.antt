@@ -1,4 +1,4 @@
--- To be read in this order: what the demands speak of, a store by its links and why a lookup answers 9, the three demands, what the store check says, document 01's starred list, the tallies of request P1, and the scan of request P2.
+-- To be read in this order: what the demands speak of, a store by its links and why a lookup answers 9, the three demands, what the store check says, document 01's starred list, the tallies of request P1, the scan of request P2, and packets without ports, request P4.
 pub mod Calls
 pub mod Links
 pub mod Demand1
@@ -8,3 +8,4 @@ pub mod Check
 pub mod Bench
 pub mod Tally
 pub mod Scan
+pub mod Portless

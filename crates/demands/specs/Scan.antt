@@ -20,7 +20,7 @@ use Rattle.demands.specs.Calls.{Passes, rulesIn, defaultIn, fieldCount, 
 
 -- THE SCAN of a packet's record through a list of rule records, with "the default action handed to it"
 abbrev pub scan : List Given → ℕ → Packet → Winner
-scan records action p = scanValues records action (p .destination) (p .source) (p .protocol) (p .«destination_port») (p .«source_port»)
+scan records action p = scanValues records action (p .destination) (p .source) (p .protocol) (p .«destination_port») (p .«source_port») (p .portless)
 
 -- the two say the same, but for the reads, of which a scan reports none
 pub record Agree (found : Found) (winner : Winner) : Type 0 where

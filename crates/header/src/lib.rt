@@ -1,4 +1,4 @@
-// The packet reader: the bytes of a packet, from its IPv4 header on, to the five values that rules
+// The packet reader: the bytes of a packet, from its IPv4 header on, to the six values that rules
 // speak of. What is right stands in specs/Header.antt, and every slice has an answer.
 ghost use mathlib.Core.Path.{_≡_};
 ghost use Prim.Native.Nat.{_+_, _<_, _≤_};
@@ -18,6 +18,7 @@ pub struct Packet {
     pub protocol: u32,
     pub destination_port: u32,
     pub source_port: u32,
+    pub portless: u32,
 }
 
 // What a slice of bytes is: a packet with these values, or nothing that can be read.
@@ -57,6 +58,7 @@ pub fn read_header(s: &[u8]) -> Header
             protocol: octets::wide(s[9]),
             destination_port: octets::half_at(Order::Big, s, behind + 2),
             source_port: octets::half_at(Order::Big, s, behind),
+            portless: 0,
         });
     }
     Header::Values(Packet {
@@ -65,6 +67,7 @@ pub fn read_header(s: &[u8]) -> Header
         protocol: octets::wide(s[9]),
         destination_port: 0,
         source_port: 0,
+        portless: 1,
     })
 }
 

@@ -1,16 +1,18 @@
-// The kind of store of the IPv4 gateway, and a rule as its caller has it: five low and five high ends by field. Here alone the code has the numbers of the layout and of the fields.
+// The kind of store of the IPv4 gateway, and a rule as its caller has it: six low and six high ends by field. Here alone the code has the numbers of the layout and of the fields.
 ghost use mathlib.Core.Path.{_≡_};
+ghost use mathlib.Core.List.{[], _∷_};
 ghost use lib.ListN.{length};
+ghost use Rattle.model.specs.Table.{packetRight};
 ghost use Rattle.model.specs.Ipv4.{ipv4};
 ghost use Rattle.table.specs.Rows.{kindOf, ruleIn};
 ghost use Rattle.ipv4.specs.Rule.{given};
 use table::Shape;
 
 // The top of each field.
-pub const TOPS: [u32; 5] = [4294967295, 4294967295, 255, 65535, 65535];
+pub const TOPS: [u32; 6] = [4294967295, 4294967295, 255, 65535, 65535, 1];
 
 // Scratch for the sets of its rules, and for their ends: for each field, and once more, a number for each of 65 rows.
-pub const SCRATCH: usize = 390;
+pub const SCRATCH: usize = 455;
 
 // The shape of its stores.
 pub fn shape() -> Shape
@@ -25,18 +27,41 @@ pub fn shape() -> Shape
     }
 }
 
-// A rule: five low ends and five high ends besides its number and its action.
+// Whether none of a packet's values is above its top. The two addresses have the whole range of a word.
+pub fn right(
+    destination: u32,
+    source: u32,
+    protocol: u32,
+    destination_port: u32,
+    source_port: u32,
+    portless: u32,
+) -> bool
+    ensures { λ r. ⌜ r ≡ packetRight ipv4 (destination ∷ source ∷ protocol ∷ «destination_port» ∷ «source_port» ∷ portless ∷ []) ⌝ }
+{
+    if 255 < protocol {
+        return false;
+    }
+    if 65535 < destination_port {
+        return false;
+    }
+    if 65535 < source_port {
+        return false;
+    }
+    portless <= 1
+}
+
+// A rule: six low ends and six high ends besides its number and its action.
 #[repr(C)]
 pub struct Rule {
     pub number: u32,
     pub action: u32,
-    pub low: [u32; 5],
-    pub high: [u32; 5],
+    pub low: [u32; 6],
+    pub high: [u32; 6],
 }
 
 // The words of a rule's row.
-pub fn row_of(rule: Rule) -> [u32; 12]
-    ensures { λ r. ⌜ (length r ≡ 12) × (ruleIn 5 r 0 ≡ given rule) ⌝ }
+pub fn row_of(rule: Rule) -> [u32; 14]
+    ensures { λ r. ⌜ (length r ≡ 14) × (ruleIn 6 r 0 ≡ given rule) ⌝ }
 {
     let low = rule.low;
     let high = rule.high;
@@ -53,12 +78,14 @@ pub fn row_of(rule: Rule) -> [u32; 12]
         high[3],
         low[4],
         high[4],
+        low[5],
+        high[5],
     ]
 }
 
 // The rule whose row begins at a word of the rows.
 pub fn rule_at(rows: &[u32], place: u32) -> Rule
-    ensures { λ r. ⌜ given r ≡ ruleIn 5 (now (rows .entry)) place ⌝ }
+    ensures { λ r. ⌜ given r ≡ ruleIn 6 (now (rows .entry)) place ⌝ }
 {
     Rule {
         number: table::number(rows, place),
@@ -69,6 +96,7 @@ pub fn rule_at(rows: &[u32], place: u32) -> Rule
             table::low(rows, place, 2),
             table::low(rows, place, 3),
             table::low(rows, place, 4),
+            table::low(rows, place, 5),
         ],
         high: [
             table::high(rows, place, 0),
@@ -76,6 +104,7 @@ pub fn rule_at(rows: &[u32], place: u32) -> Rule
             table::high(rows, place, 2),
             table::high(rows, place, 3),
             table::high(rows, place, 4),
+            table::high(rows, place, 5),
         ],
     }
 }

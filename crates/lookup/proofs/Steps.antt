@@ -2,7 +2,7 @@
 -- Assumes nothing.
 use mathlib.Core.Path.{_≡_, refl, sym, ap, _∙_}
 use mathlib.Core.Bool.{Bool, true, false, cond, not}
-use mathlib.Core.List.{List, [], _∷_}
+use mathlib.Core.List.{List}
 use Prim.Native.Nat.{ℕ, zero, suc, _+_, _-_, _*_, _≤_, _<_}
 use native.Mathlib.Omega.{arith}
 use native.Mathlib.Nat.{add-zero}
@@ -11,8 +11,7 @@ use lib.Dec.{ltb, leb, eqb}
 use lib.ListN.{length, getD, take, drop, drop-of-length-le}
 use lib.Seq.{drop-cons}
 use borrow.Author.Tests.{lt-ltb, le-ltb, le-leb, lt-leb, leb-true, eq-eqb, ne-eqb, not-true, not-false}
-use Rattle.model.specs.Table.{Kind, Shaped, rowWords}
-use Rattle.model.specs.Ipv4.{ipv4}
+use Rattle.model.specs.Table.{Kind, Shaped, rowWords, packetRight}
 use Rattle.model.proofs.Tests.{by-test, and-left}
 use Rattle.header.specs.declared.Packet.{Packet}
 use Rattle.header.specs.declared.Header.the-variants.{Values, Unreadable}
@@ -130,24 +129,15 @@ module _ (k : Kind) (w vs : List ℕ) (c from : ℕ) (q : c ≡ cellsIn w) (f : 
 pub begun : (k : Kind) (n p : ℕ) → begins k n p ≡ true → p ≤ k .width * k .most
 begun k n p h = leb-true p (k .width * k .most) (and-left _ _ h)
 
--- a packet's five values
-module _ (w : List ℕ) (d s p dp sp : ℕ) (hd : d ≤ 4294967295) (hs : s ≤ 4294967295) where
-  pub protocol-high : 255 < p → refused 11 ≡ lookupValues ipv4 w (d ∷ s ∷ p ∷ dp ∷ sp ∷ [])
+-- some values: one is above its top, or none is
+module _ (k : Kind) (w vs : List ℕ) where
+  pub wrong-11 : packetRight k vs ≡ false → lookupValues k w vs ≡ refused 11
   unfolding lookupValues
-  protocol-high h = simp (le-leb d _ hd, le-leb s _ hs, lt-leb p 255 h)
+  wrong-11 e = rw e
 
-  pub to-port-high : p ≤ 255 → 65535 < dp → refused 11 ≡ lookupValues ipv4 w (d ∷ s ∷ p ∷ dp ∷ sp ∷ [])
+  pub right-in : packetRight k vs ≡ true → lookupValues k w vs ≡ lookupIn k w vs
   unfolding lookupValues
-  to-port-high a h = simp (le-leb d _ hd, le-leb s _ hs, le-leb p 255 a, lt-leb dp 65535 h)
-
-  module _ (a : p ≤ 255) (b : dp ≤ 65535) where
-    pub from-port-high : 65535 < sp → refused 11 ≡ lookupValues ipv4 w (d ∷ s ∷ p ∷ dp ∷ sp ∷ [])
-    unfolding lookupValues
-    from-port-high h = simp (le-leb d _ hd, le-leb s _ hs, le-leb p 255 a, le-leb dp 65535 b, lt-leb sp 65535 h)
-
-    pub values-right : sp ≤ 65535 → lookupIn ipv4 w (d ∷ s ∷ p ∷ dp ∷ sp ∷ []) ≡ lookupValues ipv4 w (d ∷ s ∷ p ∷ dp ∷ sp ∷ [])
-    unfolding lookupValues
-    values-right h = simp (le-leb d _ hd, le-leb s _ hs, le-leb p 255 a, le-leb dp 65535 b, le-leb sp 65535 h)
+  right-in e = rw e
 
 -- a packet, by what its header is
 module _ (w packet : List ℕ) where

@@ -129,7 +129,7 @@ pub fn lookup_in(words: &[u32], values: &[u32], tops: &[u32], shape: Shape) -> F
     decide(words, c, values, tops, shape)
 }
 
-// The lookup of a packet's five values: 11 where one is above its top. The two addresses have the whole range of a word.
+// The lookup of a packet's six values: 11 where one is above its top.
 pub fn lookup(
     words: &[u32],
     destination: u32,
@@ -137,19 +137,28 @@ pub fn lookup(
     protocol: u32,
     destination_port: u32,
     source_port: u32,
+    portless: u32,
 ) -> Found
-    ensures { λ r. ⌜ r ≡ lookupValues ipv4 (now (words .entry)) (destination ∷ source ∷ protocol ∷ «destination_port» ∷ «source_port» ∷ []) ⌝ }
+    ensures { λ r. ⌜ r ≡ lookupValues ipv4 (now (words .entry)) (destination ∷ source ∷ protocol ∷ «destination_port» ∷ «source_port» ∷ portless ∷ []) ⌝ }
 {
-    if 255 < protocol {
+    if !ipv4::right(
+        destination,
+        source,
+        protocol,
+        destination_port,
+        source_port,
+        portless,
+    ) {
         return refuse(11);
     }
-    if 65535 < destination_port {
-        return refuse(11);
-    }
-    if 65535 < source_port {
-        return refuse(11);
-    }
-    let values = [destination, source, protocol, destination_port, source_port];
+    let values = [
+        destination,
+        source,
+        protocol,
+        destination_port,
+        source_port,
+        portless,
+    ];
     lookup_in(words, &values, &ipv4::TOPS, ipv4::shape())
 }
 
@@ -167,5 +176,6 @@ pub fn lookup_packet(words: &[u32], packet: &[u8]) -> Found
         p.protocol,
         p.destination_port,
         p.source_port,
+        p.portless,
     )
 }

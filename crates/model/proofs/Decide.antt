@@ -91,7 +91,7 @@ module _ (k : Kind) (t : Table) (p : List ℕ) (h : packetRight k p ≡ true) wh
   reads-most = subst (λ (n : ℕ). readsOf k t p ≤ n * (2 * length (t .rules) + 1)) (length-fields 0 (k .tops))
       (sum-bound (fields k) p (length (t .rules)) (everyRule k t) length-every (defaultRule k (t .action)) default-in (default-holds k (t .action) p h) (default-lowest k (t .action) 0 (k .tops)))
 
-  -- over all fields together, fewer: with five at most 6 × n + 5
+  -- over all fields together, fewer: with six at most 7 × n + 6
   pub reads-tight : readsOf k t p ≤ length (k .tops) + (length (k .tops) + 1) * length (t .rules)
   reads-tight = subst (λ (n : ℕ). readsOf k t p ≤ n + (n + 1) * length (t .rules)) (length-fields 0 (k .tops))
       (tight-bound (fields k) p (length (t .rules)) (everyRule k t) (length-append (t .rules) _) (defaultRule k (t .action)) default-in (default-holds k (t .action) p h) (default-lowest k (t .action) 0 (k .tops)))

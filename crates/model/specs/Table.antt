@@ -1,5 +1,6 @@
 -- A table of rules, its limits, and what insert, delete and read say of it.
 -- Assumes nothing: these are definitions.
+use mathlib.Core.Path.{_≡_}
 use mathlib.Core.Bool.{Bool, true, false, cond, not, _&&_, _||_}
 use mathlib.Core.List.{List, [], _∷_, _++_, map}
 use Prim.Native.Nat.{ℕ, suc, _+_, _-_, _*_, _≤_, _<_}
@@ -8,7 +9,7 @@ use lib.ListN.{length, getD}
 use Rattle.model.specs.Lists.{keep, least}
 use Rattle.model.specs.Rules.{Field, Tree, tree, cells, winner, readsSum, rangesRight, withinTops}
 
--- A kind of store, all in which stores differ: the top of each field, in order; which field (from 0) is the destination port's, with the source port's behind it (and behind both, once packets without ports are told apart, the mark of those: the last fields of every kind); how many rules it takes besides the default; the words of a rule's row; the words before the rows; and the number by which word 2 names the kind.
+-- A kind of store, all in which stores differ: the top of each field, in order; which field (from 0) is the destination port's, with the source port's behind it and then the mark of packets without ports, the last three fields of every kind; how many rules it takes besides the default; the words of a rule's row; the words before the rows; and the number by which word 2 names the kind.
 pub record Kind : Type 0 where
   pub tops : List ℕ
   pub ports : ℕ
@@ -25,10 +26,10 @@ rowWords k = k .width * suc (k .most)
 abbrev pub front : Kind → ℕ
 front k = k .head + rowWords k + 2
 
--- What every kind of store has, and no law asks more of one: a row has its rule's words, the head three, and all is small.
+-- What every kind of store has, and no law asks more of one: its last three fields are the ports' and their mark, a row has its rule's words, the head three, and all is small.
 pub record Shaped (k : Kind) : Type 0 where
   pub some : 0 < length (k .tops)
-  pub both : k .ports + 1 < length (k .tops)
+  pub last : k .ports + 3 ≡ length (k .tops)
   pub ends : 2 + 2 * length (k .tops) ≤ k .width
   pub narrow : k .width ≤ 31
   pub few : k .most ≤ 512
@@ -87,9 +88,21 @@ cellsOf k t = cells (treeOf k t)
 abbrev pub packetRight : Kind → List ℕ → Bool
 packetRight k p = eqb (length p) (length (k .tops)) && withinTops (fields k) p
 
--- the rule has two ends for each field, "a low end [not] above its high end, [no] high end above the top"
+-- the rule's range in field i (from 0) is from a to b
+abbrev pub asksFor : Rule → ℕ → ℕ → ℕ → Bool
+asksFor r i a b = eqb (getD (r .lows) i 0) a && eqb (getD (r .highs) i 0) b
+
+-- the rule's range in field i is full
+abbrev pub fullAt : Kind → Rule → ℕ → Bool
+fullAt k r i = asksFor r i 0 (getD (k .tops) i 0)
+
+-- "A rule whose port ranges aren't both full must ask for 0 to 0 there; others choose": there is the field behind the two ports'
+abbrev pub portsRight : Kind → Rule → Bool
+portsRight k r = asksFor r (k .ports + 2) 0 0 || (fullAt k r (k .ports) && fullAt k r (k .ports + 1))
+
+-- the rule has two ends for each field, "a low end [not] above its high end, [no] high end above the top", and it asks for ports only of packets that have them
 abbrev pub ruleRight : Kind → Rule → Bool
-ruleRight k r = eqb (length (r .lows)) (length (k .tops)) && (eqb (length (r .highs)) (length (k .tops)) && rangesRight (fields k) r)
+ruleRight k r = eqb (length (r .lows)) (length (k .tops)) && (eqb (length (r .highs)) (length (k .tops)) && (rangesRight (fields k) r && portsRight k r))
 
 -- the numbers of the rules rise, from b on, and none is above 65,534
 abbrev pub risingFrom : ℕ → List Rule → Bool
@@ -129,7 +142,7 @@ withRule r t = record { action = t .action; rules = added r (t .rules) }
 abbrev pub without : ℕ → Table → Table
 without n t = record { action = t .action; rules = removed n (t .rules) }
 
--- What insert says of a table that stands in a store of c cells, in document 01's order: 1, "rule number above 65,534"; 2, "a low end above its high end, or a high end above the top"; 3, "number already there"; 5, "64 rules stand already"; 6, "the tree of the new table has more than c locations"; 0, done.
+-- What insert says of a table that stands in a store of c cells, in document 01's order: 1, "rule number above 65,534"; 2, "a low end above its high end, or a high end above the top", and "also for a narrow port range with anything but 0 to 0 in field 6"; 3, "number already there"; 5, "64 rules stand already"; 6, "the tree of the new table has more than c locations"; 0, done.
 abbrev pub insertAnswer : Kind → ℕ → Table → Rule → ℕ
 insertAnswer k c t r =
     cond (ltb 65534 (r .number)) 1

@@ -5,13 +5,13 @@ use mathlib.Core.List.{List}
 use Prim.Native.Nat.{ℕ}
 use Rattle.model.specs.Table.{Rule}
 use Rattle.model.specs.Ipv4.{ipv4}
-use Rattle.ipv4.specs.Rule.{five}
+use Rattle.ipv4.specs.Rule.{six}
 use Rattle.layout.specs.Store.{passes}
 use Rattle.reamstork.specs.declared.Reading.{Reading}
 
--- a rule as C hands it over: two numbers and two arrays of five ends
+-- a rule as C hands it over: two numbers and two arrays of six ends
 abbrev pub ruleOf : ℕ → ℕ → List ℕ → List ℕ → Rule
-ruleOf number action low high = record { number = number; action = action; lows = five low; highs = five high }
+ruleOf number action low high = record { number = number; action = action; lows = six low; highs = six high }
 
 -- the rule in what reading gives
 abbrev pub ruleRead : Reading → Rule

@@ -22,8 +22,8 @@ pub struct Reading {
     pub answer: u32,
     pub number: u32,
     pub action: u32,
-    pub low: [u32; 5],
-    pub high: [u32; 5],
+    pub low: [u32; 6],
+    pub high: [u32; 6],
 }
 
 // Starts a store of c cells without a named action: 1, forward.
@@ -48,8 +48,8 @@ pub extern "C" fn reamstork_insert(
     words: &mut [u32],
     number: u32,
     action: u32,
-    low: &[u32; 5],
-    high: &[u32; 5],
+    low: &[u32; 6],
+    high: &[u32; 6],
 ) -> u32
     ensures { λ r. ⌜ (r ≡ insertSays ipv4 (now (words .entry)) (ruleOf number action (now (low .entry)) (now (high .entry)))) × (now (words .exit) ≡ insertWords ipv4 (now (words .entry)) (ruleOf number action (now (low .entry)) (now (high .entry)))) ⌝ }
 {
@@ -118,7 +118,7 @@ pub extern "C" fn reamstork_cells(words: &[u32]) -> Count
     store::cells(words)
 }
 
-// Looks five values up.
+// Looks six values up.
 #[no_mangle]
 pub extern "C" fn reamstork_lookup(
     words: &[u32],
@@ -127,8 +127,9 @@ pub extern "C" fn reamstork_lookup(
     protocol: u32,
     destination_port: u32,
     source_port: u32,
+    portless: u32,
 ) -> Found
-    ensures { λ r. ⌜ r ≡ lookupValues ipv4 (now (words .entry)) (destination ∷ source ∷ protocol ∷ «destination_port» ∷ «source_port» ∷ []) ⌝ }
+    ensures { λ r. ⌜ r ≡ lookupValues ipv4 (now (words .entry)) (destination ∷ source ∷ protocol ∷ «destination_port» ∷ «source_port» ∷ portless ∷ []) ⌝ }
 {
     lookup::lookup(
         words,
@@ -137,6 +138,7 @@ pub extern "C" fn reamstork_lookup(
         protocol,
         destination_port,
         source_port,
+        portless,
     )
 }
 
@@ -148,7 +150,7 @@ pub extern "C" fn reamstork_lookup_packet(words: &[u32], packet: &[u8]) -> Found
     lookup::lookup_packet(words, packet)
 }
 
-// Looks five values up in a list of rule records, with no store.
+// Looks six values up in a list of rule records, with no store.
 #[no_mangle]
 pub extern "C" fn reamstork_scan(
     records: &[Rule],
@@ -158,8 +160,9 @@ pub extern "C" fn reamstork_scan(
     protocol: u32,
     destination_port: u32,
     source_port: u32,
+    portless: u32,
 ) -> Winner
-    ensures { λ r. ⌜ r ≡ scanValues (now (records .entry)) «default_action» destination source protocol «destination_port» «source_port» ⌝ }
+    ensures { λ r. ⌜ r ≡ scanValues (now (records .entry)) «default_action» destination source protocol «destination_port» «source_port» portless ⌝ }
 {
     scan::scan(
         records,
@@ -169,6 +172,7 @@ pub extern "C" fn reamstork_scan(
         protocol,
         destination_port,
         source_port,
+        portless,
     )
 }
 

@@ -60,9 +60,13 @@ module _ (p : Packet) (r : Given) where
   unfolding upTo
   out-4 a b c d = rw (a, b, c, d)
 
-  pub last-5 : Range 0 (p .destination) ≡ true → Range 1 (p .source) ≡ true → Range 2 (p .protocol) ≡ true → Range 3 (p .«destination_port») ≡ true → Held (Range 4 (p .«source_port»))
+  pub out-5 : Range 0 (p .destination) ≡ true → Range 1 (p .source) ≡ true → Range 2 (p .protocol) ≡ true → Range 3 (p .«destination_port») ≡ true → Range 4 (p .«source_port») ≡ false → Held false
   unfolding upTo
-  last-5 a b c d = rw (a, b, c, d) (alone (Range 4 (p .«source_port»)))
+  out-5 a b c d e = rw (a, b, c, d, e)
+
+  pub last-6 : Range 0 (p .destination) ≡ true → Range 1 (p .source) ≡ true → Range 2 (p .protocol) ≡ true → Range 3 (p .«destination_port») ≡ true → Range 4 (p .«source_port») ≡ true → Held (Range 5 (p .portless))
+  unfolding upTo
+  last-6 a b c d e = rw (a, b, c, d, e) (alone (Range 5 (p .portless)))
 
 -- THE LEAD after a record more
 module _ (l : Lead) (r : Given) where
@@ -77,20 +81,6 @@ module _ (l : Lead) (r : Given) where
   pub leads : holdsPacket (l .packet) (given r) ≡ true → precedesLead (r .number) l ≡ true → record { packet = l .packet; found = true; number = r .number; action = r .action } ≡ stepped l r
   unfolding stepped
   leads h b = rw (h, b)
-
--- THE TOPS of a packet whose addresses are words
-module _ (p : Packet) (d : p .destination ≤ 4294967295) (s : p .source ≤ 4294967295) where
-  abbrev Right : Bool → Type 0
-  Right b = b ≡ packetRight ipv4 (valuesOf (Values p))
-
-  pub protocol-high : 255 < p .protocol → Right false
-  protocol-high h = simp (le-leb _ _ d, le-leb _ _ s, lt-leb _ _ h)
-
-  pub to-port-high : p .protocol ≤ 255 → 65535 < p .«destination_port» → Right false
-  to-port-high a h = simp (le-leb _ _ d, le-leb _ _ s, le-leb _ _ a, lt-leb _ _ h)
-
-  pub from-port : p .protocol ≤ 255 → p .«destination_port» ≤ 65535 → Right (leb (p .«source_port») 65535)
-  from-port a b = simp (le-leb _ _ d, le-leb _ _ s, le-leb _ _ a, le-leb _ _ b) (alone (leb (p .«source_port») 65535))
 
 -- THE END
 module _ (l : Lead) where

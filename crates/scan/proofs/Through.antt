@@ -59,7 +59,7 @@ module _ (p : Packet) where
         (λ h. carried (x ∷ rs) (ap (λ l. through l rs) (sym (not-held (started a p) x h))) (simp h (from-started rs)))
 
   -- so the scan's answer is what is left at the end
-  pub scan-is : (rs : List Given) (a : ℕ) → finished (through (started a p) rs) ≡ scanValues rs a (p .destination) (p .source) (p .protocol) (p .«destination_port») (p .«source_port»)
+  pub scan-is : (rs : List Given) (a : ℕ) → finished (through (started a p) rs) ≡ scanValues rs a (p .destination) (p .source) (p .protocol) (p .«destination_port») (p .«source_port») (p .portless)
   unfolding finished scanValues
   scan-is rs a = let e = from-started a rs in rw (e .0, e .1, e .2)
 

@@ -41,10 +41,10 @@ abbrev pub rulesOf : List Given → List Rule
 rulesOf records = map given records
 
 -- THE SCAN: "Refusals: 11 as before", and nothing else refuses
-unfoldable pub scanValues : List Given → ℕ → ℕ → ℕ → ℕ → ℕ → ℕ → Winner
-scanValues records action destination source protocol destinationPort sourcePort =
-    cond (packetRight ipv4 (destination ∷ source ∷ protocol ∷ destinationPort ∷ sourcePort ∷ []))
-    (named (decider (rulesOf records) action (record { destination = destination; source = source; protocol = protocol; «destination_port» = destinationPort; «source_port» = sourcePort })))
+unfoldable pub scanValues : List Given → ℕ → ℕ → ℕ → ℕ → ℕ → ℕ → ℕ → Winner
+scanValues records action destination source protocol destinationPort sourcePort portless =
+    cond (packetRight ipv4 (destination ∷ source ∷ protocol ∷ destinationPort ∷ sourcePort ∷ portless ∷ []))
+    (named (decider (rulesOf records) action (record { destination = destination; source = source; protocol = protocol; «destination_port» = destinationPort; «source_port» = sourcePort; portless = portless })))
     (noWinner 11)
 
 -- ITS STEPS. Before the first record no rule leads, and the action is the default's.

@@ -2,10 +2,6 @@
 ghost use mathlib.Core.Path.{_≡_};
 ghost use mathlib.Core.Bool.{_&&_};
 ghost use lib.Dec.{leb};
-ghost use Rattle.model.specs.Table.{packetRight};
-ghost use Rattle.model.specs.Ipv4.{ipv4};
-ghost use Rattle.header.specs.declared.Header.the-variants.{Values};
-ghost use Rattle.header.specs.Header.{valuesOf};
 ghost use Rattle.ipv4.specs.Rule.{given};
 ghost use Rattle.scan.specs.Scan.{holdsPacket, scanValues, started, precedesLead, stepped, finished};
 use header::Packet;
@@ -35,8 +31,9 @@ fn start(
     protocol: u32,
     destination_port: u32,
     source_port: u32,
+    portless: u32,
 ) -> Lead
-    ensures { λ r. ⌜ r ≡ started action (record { destination = destination; source = source; protocol = protocol; «destination_port» = «destination_port»; «source_port» = «source_port» }) ⌝ }
+    ensures { λ r. ⌜ r ≡ started action (record { destination = destination; source = source; protocol = protocol; «destination_port» = «destination_port»; «source_port» = «source_port»; portless = portless }) ⌝ }
 {
     let packet = Packet {
         destination,
@@ -44,6 +41,7 @@ fn start(
         protocol,
         destination_port,
         source_port,
+        portless,
     };
     Lead {
         packet,
@@ -63,7 +61,7 @@ fn within(low: u32, value: u32, high: u32) -> bool
     false
 }
 
-// Whether the five ranges of a rule all hold the packet's values.
+// Whether the six ranges of a rule all hold the packet's values.
 fn held(packet: Packet, rule: Rule) -> bool
     ensures { λ r. ⌜ r ≡ holdsPacket packet (given rule) ⌝ }
 {
@@ -79,7 +77,10 @@ fn held(packet: Packet, rule: Rule) -> bool
     if !within(rule.low[3], packet.destination_port, rule.high[3]) {
         return false;
     }
-    within(rule.low[4], packet.source_port, rule.high[4])
+    if !within(rule.low[4], packet.source_port, rule.high[4]) {
+        return false;
+    }
+    within(rule.low[5], packet.portless, rule.high[5])
 }
 
 // Whether a number goes before the leader's: any does where no rule leads.
@@ -111,25 +112,19 @@ fn step(lead: Lead, rule: Rule) -> Lead
     }
 }
 
-// Whether no value is above its top. The two addresses have the whole range of a word.
-fn right(packet: Packet) -> bool
-    ensures { λ r. ⌜ r ≡ packetRight ipv4 (valuesOf (Values packet)) ⌝ }
-{
-    if 255 < packet.protocol {
-        return false;
-    }
-    if 65535 < packet.destination_port {
-        return false;
-    }
-    packet.source_port <= 65535
-}
-
 // What the scan answers at its end.
 fn finish(lead: Lead) -> Winner
     ensures { λ r. ⌜ r ≡ finished lead ⌝ }
 {
     let packet = lead.packet;
-    if !right(packet) {
+    if !ipv4::right(
+        packet.destination,
+        packet.source,
+        packet.protocol,
+        packet.destination_port,
+        packet.source_port,
+        packet.portless,
+    ) {
         return Winner {
             answer: 11,
             rule: 0,
@@ -143,7 +138,7 @@ fn finish(lead: Lead) -> Winner
     }
 }
 
-// The scan of five values through the records: the holder of least number, of equal numbers the earlier one.
+// The scan of six values through the records: the holder of least number, of equal numbers the earlier one.
 pub fn scan(
     records: &[Rule],
     default_action: u32,
@@ -152,8 +147,9 @@ pub fn scan(
     protocol: u32,
     destination_port: u32,
     source_port: u32,
+    portless: u32,
 ) -> Winner
-    ensures { λ r. ⌜ r ≡ scanValues (now (records .entry)) «default_action» destination source protocol «destination_port» «source_port» ⌝ }
+    ensures { λ r. ⌜ r ≡ scanValues (now (records .entry)) «default_action» destination source protocol «destination_port» «source_port» portless ⌝ }
 {
     let mut lead = start(
         default_action,
@@ -162,6 +158,7 @@ pub fn scan(
         protocol,
         destination_port,
         source_port,
+        portless,
     );
     let mut i: usize = 0;
     while i < records.len() {

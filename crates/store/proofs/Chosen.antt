@@ -24,7 +24,7 @@ module _ (s : Shape) (e : kindOf (ipv4 .tops) s ≡ ipv4) where
   pub shaped : Shaped (kindOf (ipv4 .tops) s)
   shaped = rw e ipv4-shaped
 
-  pub scratch : (sets ends : List ℕ) → length sets ≡ 390 → length ends ≡ 390 → Scratch (suc (s .most)) (length (ipv4 .tops)) sets ends
+  pub scratch : (sets ends : List ℕ) → length sets ≡ 455 → length ends ≡ 455 → Scratch (suc (s .most)) (length (ipv4 .tops)) sets ends
   scratch sets ends a b = let z : s .most ≡ 64 = ap (λ k. k .most) e in rw z (record { places = omega arith; room = omega arith })
 
 -- what a search that answered a and found the row at p gives

@@ -85,8 +85,8 @@ fn refused(answer: u32) -> Reading
         rule: Rule {
             number: 0,
             action: 0,
-            low: [0, 0, 0, 0, 0],
-            high: [0, 0, 0, 0, 0],
+            low: [0, 0, 0, 0, 0, 0],
+            high: [0, 0, 0, 0, 0, 0],
         },
     }
 }

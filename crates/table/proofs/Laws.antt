@@ -1,7 +1,7 @@
 -- Laws of the rows: what stands at a word of them, and the steps of the loops that go through the rules and the fields.
 -- Assumes nothing.
-use mathlib.Core.Path.{_≡_, refl, sym, ap, _∙_}
-use mathlib.Core.Bool.{Bool, true, false, not, _&&_}
+use mathlib.Core.Path.{_≡_, refl, sym, ap, ap₂, _∙_}
+use mathlib.Core.Bool.{Bool, true, false, not, _&&_, _||_}
 use mathlib.Core.List.{List, [], _∷_, map}
 use Prim.Native.Nat.{ℕ, zero, suc, _+_, _-_, _*_, _/_, _%_, _≤_, _<_}
 use native.Mathlib.Omega.{arith}
@@ -12,7 +12,7 @@ use lib.Seq.{drop-cons, take-suc-set}
 use borrow.Author.Tests.{ltb-true, ltb-false, lt-ltb, le-ltb, eq-eqb, ne-eqb, eqb-true, eqb-false, le-leb, lt-leb}
 use Rattle.model.specs.Lists.{same, upTo}
 use Rattle.model.specs.Rules.{rangesRight}
-use Rattle.model.specs.Table.{Kind, Rule, rowWords, fieldsFrom, defaultRule, risingFrom, allRight, ruleRight}
+use Rattle.model.specs.Table.{Kind, Rule, rowWords, fieldsFrom, defaultRule, risingFrom, allRight, asksFor, portsRight, ruleRight}
 use Rattle.model.proofs.Tests.{by-test, never}
 use Rattle.model.proofs.UpTo.{length-upTo, getD-upTo, same-false, true-same}
 use Rattle.model.proofs.Grid.{row-ends, getD-grid, grid-is}
@@ -263,14 +263,49 @@ module _ (rows : List ℕ) (place : ℕ) (tops : List ℕ) where
     right-on x y = right-is ∙ rw (le-leb l g x, le-leb g (getD tops f 0) y, add-one f)
 
 -- a rule that a row holds has as many ends as there are fields
-pub rule-right : (k : Kind) (rows : List ℕ) (p : ℕ) → ruleRight k (ruleIn (length (k .tops)) rows p) ≡ rangesRight (fieldsFrom 0 (k .tops)) (ruleIn (length (k .tops)) rows p)
+pub rule-right : (k : Kind) (rows : List ℕ) (p : ℕ) → ruleRight k (ruleIn (length (k .tops)) rows p) ≡ (rangesRight (fieldsFrom 0 (k .tops)) (ruleIn (length (k .tops)) rows p) && portsRight k (ruleIn (length (k .tops)) rows p))
 rule-right k rows p =
     let n = length (k .tops) in
     rw (eq-eqb (length (upTo n (λ f. lowIn rows f p))) n (length-upTo n (λ f. lowIn rows f p)), eq-eqb (length (upTo n (λ f. highIn rows f p))) n (length-upTo n (λ f. highIn rows f p)))
 
-module _ (k : Kind) (n : ℕ) (rows : List ℕ) (p at : ℕ) (h : p < n) (q : at ≡ k .width * (p + 1)) (b : Bool) (e : b ≡ rangesRight (fieldsFrom 0 (k .tops)) (ruleIn (length (k .tops)) rows at)) where
+-- the rule of a row asks in a field for one number to another
+abbrev pub Asked : List ℕ → ℕ → ℕ → ℕ → ℕ → Bool
+Asked rows p f from to = eqb (lowIn rows f p) from && eqb (highIn rows f p) to
+
+-- by the test of its low end, l, and then of its high end, h
+module _ (rows : List ℕ) (p f from to : ℕ) {l : ℕ} (e : l ≡ lowIn rows f p) where
+  pub asks-other : (l ≡ from → ⊥) → false ≡ Asked rows p f from to
+  asks-other n = rw (ne-eqb (lowIn rows f p) from (λ q. n (e ∙ q)))
+
+  pub asks-high : l ≡ from → {h : ℕ} → h ≡ highIn rows f p → eqb h to ≡ Asked rows p f from to
+  asks-high q {h = h} g = ap (λ x. eqb x to) g ∙ sym (rw (eq-eqb (lowIn rows f p) from (sym e ∙ q)))
+
+-- the port rule, by the tests of the mark, x, and of the two ports, y and z
+module _ (k : Kind) (s : k .ports + 3 ≡ length (k .tops)) (rows : List ℕ) (p : ℕ) where
+  asked : (f to : ℕ) → f < k .ports + 3 → asksFor (ruleIn (length (k .tops)) rows p) f 0 to ≡ Asked rows p f 0 to
+  asked f to h = let n = length (k .tops) in rw (getD-upTo n (λ i. lowIn rows i p) f 0 (omega (arith, s, h)), getD-upTo n (λ i. highIn rows i p) f 0 (omega (arith, s, h)))
+
+  ports-are : portsRight k (ruleIn (length (k .tops)) rows p) ≡ (Asked rows p (k .ports + 2) 0 0 || (Asked rows p (k .ports) 0 (getD (k .tops) (k .ports) 0) && Asked rows p (k .ports + 1) 0 (getD (k .tops) (k .ports + 1) 0)))
+  ports-are =
+      ap₂ _||_ (asked (k .ports + 2) 0 (omega arith)) (ap₂ _&&_ (asked (k .ports) (getD (k .tops) (k .ports) 0) (omega arith)) (asked (k .ports + 1) (getD (k .tops) (k .ports + 1) 0) (omega arith)))
+
+  module _ {x : Bool} (ex : x ≡ Asked rows p (k .ports + 2) 0 0) where
+    pub mark-none : x ≡ true → true ≡ portsRight k (ruleIn (length (k .tops)) rows p)
+    mark-none t = sym (ports-are ∙ rw (sym ex ∙ t))
+
+    module _ (f : x ≡ false) {v : ℕ} (ev : v ≡ getD (k .tops) (k .ports) 0) {y : Bool} (ey : y ≡ Asked rows p (k .ports) 0 v) where
+      first-is : y ≡ Asked rows p (k .ports) 0 (getD (k .tops) (k .ports) 0)
+      first-is = ey ∙ ap (Asked rows p (k .ports) 0) ev
+
+      pub first-narrow : y ≡ false → false ≡ portsRight k (ruleIn (length (k .tops)) rows p)
+      first-narrow g = sym (ports-are ∙ rw (sym ex ∙ f, sym first-is ∙ g))
+
+      pub by-second : y ≡ true → {w : ℕ} → w ≡ getD (k .tops) (k .ports + 1) 0 → {z : Bool} → z ≡ Asked rows p (k .ports + 1) 0 w → z ≡ portsRight k (ruleIn (length (k .tops)) rows p)
+      by-second g ew ez = ez ∙ ap (Asked rows p (k .ports + 1) 0) ew ∙ sym (ports-are ∙ rw (sym ex ∙ f, sym first-is ∙ g))
+
+module _ (k : Kind) (n : ℕ) (rows : List ℕ) (p at : ℕ) (h : p < n) (q : at ≡ k .width * (p + 1)) (b : Bool) (e : b ≡ ruleRight k (ruleIn (length (k .tops)) rows at)) where
   all-is : allRight k (drop p (tableIn k n rows .rules)) ≡ (b && allRight k (drop (suc p) (tableIn k n rows .rules)))
-  all-is = rw (rules-from k n rows p h) (ap (λ x. x && allRight k (drop (suc p) (tableIn k n rows .rules))) (rule-right k rows (k .width * suc p) ∙ sym (rw (q, add-one p) at e)))
+  all-is = rw (rules-from k n rows p h) (ap (λ x. x && allRight k (drop (suc p) (tableIn k n rows .rules))) (sym (rw (q, add-one p) at e)))
 
   pub all-wrong : b ≡ false → allRight k (drop p (tableIn k n rows .rules)) ≡ false
   all-wrong f = all-is ∙ rw f

@@ -7,11 +7,11 @@ ghost use lib.Dec.{leb, eqb};
 ghost use lib.ListN.{length, getD, take};
 ghost use Rattle.model.specs.Lists.{same, upTo};
 ghost use Rattle.model.specs.Rules.{rangesRight};
-ghost use Rattle.model.specs.Table.{rowWords, defaultRule, stands, fieldsFrom, risingFrom, allRight};
+ghost use Rattle.model.specs.Table.{rowWords, defaultRule, stands, fieldsFrom, risingFrom, portsRight, ruleRight, allRight};
 ghost use Rattle.rows.specs.Rows.{numberIn, actionIn, lowIn, highIn};
 ghost use Rattle.table.specs.Rows.{kindOf, Raised, rowWord, rowsText, ruleIn, tableIn, places as placesOf, ahead, putWord, takeWord, freshWord, Rowed, Copied, Tells, First, Zeros, Blank};
 
-// What the layout of a store goes by, besides the tops of its fields: which field is the destination port's, how many rules it takes, the words of a row, the words before the rows, and what word 2 says.
+// What the layout of a store goes by, besides the tops of its fields: which field is the destination port's, with the source port's and the mark of packets without ports behind it, how many rules it takes, the words of a row, the words before the rows, and what word 2 says.
 pub struct Shape {
     pub ports: u32,
     pub most: u32,
@@ -186,8 +186,8 @@ pub fn rising(rows: &[u32], n: u32, tops: &[u32], shape: Shape) -> bool
     true
 }
 
-// Whether the rule at a place has right ranges: no low end above its high end, no high end above its field's top.
-pub fn right(rows: &[u32], place: u32, tops: &[u32]) -> bool
+// Whether no low end of the rule at a place is above its high end, and no high end above its field's top.
+fn ranges_right(rows: &[u32], place: u32, tops: &[u32]) -> bool
     requires { ⌜ length (now tops) ≤ 32 ⌝ }
     ensures { λ r. ⌜ r ≡ rangesRight (fieldsFrom 0 (now (tops .entry))) (ruleIn (length (now (tops .entry))) (now (rows .entry)) place) ⌝ }
 {
@@ -205,15 +205,51 @@ pub fn right(rows: &[u32], place: u32, tops: &[u32]) -> bool
     true
 }
 
-// Whether each of the n rules has right ranges.
+// Whether the range of the rule at a place in a field is from one number to another.
+fn asks(rows: &[u32], place: u32, field: u32, from: u32, to: u32) -> bool
+    ensures { λ r. ⌜ r ≡ (eqb (lowIn (now (rows .entry)) field place) from && eqb (highIn (now (rows .entry)) field place) to) ⌝ }
+{
+    if low(rows, place, field) != from {
+        return false;
+    }
+    high(rows, place, field) == to
+}
+
+// Whether the rule at a place asks for ports only of packets that have them: both its port ranges are full, or its range of the mark behind them is 0 to 0.
+fn ports_right(rows: &[u32], place: u32, tops: &[u32], shape: Shape) -> bool
+    requires { ⌜ (length (now tops) ≤ 32) × (shape .ports + 3 ≡ length (now tops)) ⌝ }
+    ensures { λ r. ⌜ r ≡ portsRight (kindOf (now (tops .entry)) shape) (ruleIn (length (now (tops .entry))) (now (rows .entry)) place) ⌝ }
+{
+    let first = shape.ports;
+    if asks(rows, place, first + 2, 0, 0) {
+        return true;
+    }
+    if !asks(rows, place, first, 0, word(tops, first as usize)) {
+        return false;
+    }
+    asks(rows, place, first + 1, 0, word(tops, (first as usize) + 1))
+}
+
+// Whether the rule at a place is one that a table may hold.
+pub fn right(rows: &[u32], place: u32, tops: &[u32], shape: Shape) -> bool
+    requires { ⌜ (length (now tops) ≤ 32) × (shape .ports + 3 ≡ length (now tops)) ⌝ }
+    ensures { λ r. ⌜ r ≡ ruleRight (kindOf (now (tops .entry)) shape) (ruleIn (length (now (tops .entry))) (now (rows .entry)) place) ⌝ }
+{
+    if !ranges_right(rows, place, tops) {
+        return false;
+    }
+    ports_right(rows, place, tops, shape)
+}
+
+// Whether each of the n rules is one that a table may hold.
 pub fn all_right(rows: &[u32], n: u32, tops: &[u32], shape: Shape) -> bool
-    requires { ⌜ (n ≤ 512) × (shape .width ≤ 31) × (length (now tops) ≤ 32) ⌝ }
+    requires { ⌜ (n ≤ 512) × (shape .width ≤ 31) × (length (now tops) ≤ 32) × (shape .ports + 3 ≡ length (now tops)) ⌝ }
     ensures { λ r. ⌜ r ≡ allRight (kindOf (now (tops .entry)) shape) (tableIn (kindOf (now (tops .entry)) shape) n (now (rows .entry)) .rules) ⌝ }
 {
     let mut p: u32 = 0;
     while p < n {
         p += 1;
-        if !right(rows, row_start(shape.width, p), tops) {
+        if !right(rows, row_start(shape.width, p), tops, shape) {
             return false;
         }
     }

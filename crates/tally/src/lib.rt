@@ -120,6 +120,7 @@ pub fn lookup_packet(
         p.protocol,
         p.destination_port,
         p.source_port,
+        p.portless,
     );
     if found.answer != 0 {
         return found;

@@ -12,5 +12,6 @@ lookup-of-spec =
     (λ c. search needs)
     (λ c. search needs)
     (λ c. search needs)
+    (λ c. search needs)
     (λ c κs. tt)
     (λ c. tt))

@@ -1,12 +1,14 @@
 -- `lookup::lookup` meets its contract: one law for each answer.
 -- Assumes nothing.
-use mathlib.Core.Path.{ap, subst⁻¹, _∙_}
-use mathlib.Core.List.{[], _∷_}
+use mathlib.Core.Path.{sym, ap, subst⁻¹, _∙_}
+use mathlib.Core.List.{List, [], _∷_}
+use Prim.Native.Nat.{ℕ}
 use Rattle.model.specs.Table.{Kind, Shaped}
+use Rattle.model.specs.Ipv4.{ipv4, ipv4-shaped}
 use Rattle.lookup.specs.Walk.{lookupIn}
-use Rattle.lookup.proofs.Steps.{protocol-high, to-port-high, from-port-high, values-right}
+use Rattle.lookup.proofs.Steps.{wrong-11, right-in}
 use borrow.Author.Needs.{needs}
-use Rattle.model.specs.Ipv4.{ipv4-shaped}
+use borrow.Author.Tests.{not-true, not-false}
 use Rattle.lookup.proofs.lookup.Statement.{statement}
 use Rattle.lookup.proofs.lookup.Tie as tie
 
@@ -15,21 +17,16 @@ lookup-spec =
     tie.close
     (tie.spec
     (λ c κs. search needs)
-    -- the protocol is above its top
-    (λ c. c .refuse .ensures ∙ protocol-high _ _ _ _ _ _ (search needs) (search needs) (search needs))
     (λ c κs. search needs)
-    -- the destination port is
-    (λ c. c .refuse2 .ensures ∙ to-port-high _ _ _ _ _ _ (search needs) (search needs) (search needs) (search needs))
-    (λ c κs. search needs)
-    -- the source port is
-    (λ c. c .refuse3 .ensures ∙ from-port-high _ _ _ _ _ _ (search needs) (search needs) (search needs) (search needs) (search needs))
+    -- a value is above its top
+    (λ c. c .refuse .ensures ∙ sym (wrong-11 ipv4 _ _ (sym (c .before .before .right .ensures) ∙ not-true _ (c .before .if1 .taken))))
     (λ c. search needs)
     (λ c. search needs)
     (λ c κs. search needs)
     (λ c κs. (subst⁻¹ Shaped (c .shape .ensures) ipv4-shaped, search needs))
-    -- no value is
+    -- none is
     (λ c.
-    let a = c .before .before .before .before .before .before .before .before .args in
-    c .lookup-in .ensures
-    ∙ (ap (λ (k : Kind). lookupIn k (a .words .now) (a .destination ∷ a .source ∷ a .protocol ∷ a .destination-port ∷ a .source-port ∷ [])) (c .before .shape .ensures)
-    ∙ values-right (a .words .now) (a .destination) (a .source) (a .protocol) (a .destination-port) (a .source-port) (search needs) (search needs) (search needs) (search needs) (search needs))))
+    let t = c .before .before .before .before in
+    let a = t .before .before .before .args in
+    let vs : List ℕ = a .destination ∷ a .source ∷ a .protocol ∷ a .destination-port ∷ a .source-port ∷ a .portless ∷ [] in
+    c .lookup-in .ensures ∙ (ap (λ (k : Kind). lookupIn k (a .words .now) vs) (c .before .shape .ensures) ∙ sym (right-in ipv4 (a .words .now) vs (sym (t .before .right .ensures) ∙ not-false _ (t .if1 .left))))))

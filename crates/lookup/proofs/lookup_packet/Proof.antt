@@ -17,5 +17,5 @@ lookup-packet-spec =
     -- the header gives no values
     (λ c. c .refuse .ensures ∙ no-values _ _ (sym (c .before .enum-told .given .1) ∙ c .before .before .before .read-header .ensures))
     (λ c κs. search needs)
-    -- it gives five
+    -- it gives them
     (λ c. c .lookup .ensures ∙ by-values _ _ _ (sym (c .before .before .p .given .1) ∙ c .before .before .before .before .read-header .ensures)))

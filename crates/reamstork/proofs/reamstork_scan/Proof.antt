@@ -37,7 +37,7 @@ use Rattle.ipv4.specs.declared.Rule.{Rule}
 use Rattle.ipv4.proofs.Rule as R
 use Rattle.scan.specs.declared.Winner.{Winner}
 use Rattle.scan.specs.Scan.{scanValues}
-use Rattle.scan.proofs.Passed.{stayed, spells, tells, Six, six-vals, six-own, Words, own-six, goes}
+use Rattle.scan.proofs.Passed.{stayed, spells, tells, Seven, seven-vals, seven-own, Words, own-seven, goes}
 use Rattle.scan.proofs.Winner as Win
 use Rattle.scan.proofs.Winner.Laws as Win′
 use Rattle.scan.proofs.scan as scan
@@ -55,21 +55,21 @@ module _ {M : Type 1} (𝓤 : URA M) (H : Heap 𝓤) (A : Atoms 𝓤) (mem : Mem
   Scan = tripleOf 𝓤 H A scan.signature (scan.spec 𝓤 H A mem run)
 
 module _ {M : Type 1} (𝓤 : URA M) (H : Heap 𝓤) (A : Atoms 𝓤) (W : Given 𝓤 H A) (mem : Memory → SProp 𝓤) (run : Routine → Fun 𝓤)
-    (κ : Lft) (q : Share) (b o : ℕ) (γ : GName) (ys : List Rule) (a d s p dp sp : ℕ) (room : Room R.the-row (length ys)) (fit : Words a d s p dp sp) where
+    (κ : Lft) (q : Share) (b o : ℕ) (γ : GName) (ys : List Rule) (a d s p dp sp m : ℕ) (room : Room R.the-row (length ys)) (fit : Words a d s p dp sp m) where
   abbrev slice : Val
   slice = sliceVal (b, o) (length ys)
 
   abbrev answer : Winner
-  answer = scanValues ys a d s p dp sp
+  answer = scanValues ys a d s p dp sp m
 
-  abbrev x : RefT (List Rule) × Six
-  x = (record { ptr = (b, o); name = γ; now = ys }, (a, (d, (s, (p, (dp, (sp, tt)))))))
+  abbrev x : RefT (List Rule) × Seven
+  x = (record { ptr = (b, o); name = γ; now = ys }, (a, (d, (s, (p, (dp, (sp, (m, tt))))))))
 
   abbrev at : Vals scan.signature (κ, tt)
-  at = (slice ∷ [], six-vals a d s p dp sp)
+  at = (slice ∷ [], seven-vals a d s p dp sp m)
 
   abbrev passed : List Val
-  passed = slice ∷ vint w32 a ∷ vint w32 d ∷ vint w32 s ∷ vint w32 p ∷ vint w32 dp ∷ vint w32 sp ∷ []
+  passed = slice ∷ vint w32 a ∷ vint w32 d ∷ vint w32 s ∷ vint w32 p ∷ vint w32 dp ∷ vint w32 sp ∷ vint w32 m ∷ []
 
   abbrev Post : Val → SProp 𝓤
   Post = walkOf 𝓤 H A face.ended stayed (face.clauses 𝓤 H A mem run) .post (((κ, tt), (q, tt), tt, x, at), tt)
@@ -81,8 +81,8 @@ module _ {M : Type 1} (𝓤 : URA M) (H : Heap 𝓤) (A : Atoms 𝓤) (W : Given
   exits : (r : Winner) (u : Val) → r ≡ answer → ent 𝓤 (⋆ 𝓤 H A (‵ (Win.the-row .own r (u ∷ [])) ∷ (‵ (flft κ q) ⊛ ‵ ftrue) ∷ ‵ Own ∷ [])) (Post u)
   exits r u e =
       qed W (‵ (Win.the-row .own r (u ∷ [])) ∷ (‵ (flft κ q) ⊛ ‵ ftrue) ∷ ‵ Own ∷ []) ∵
-      suffices ! _ (ends-at 𝓤 H A face.ended stayed (face.clauses 𝓤 H A mem run) W (((κ, tt), (q, tt), tt, x, at), tt) u r (tt, (tt, (tt, (tt, (tt, (tt, (tt, tt))))))) (tt, (tt, (tt, (tt, (tt, (tt, (tt, tt)))))))) $ says ! e $
-      move ! (1 ∷ []) $ frame ! $ use0 W (‵ (six-own a d s p dp sp)) (own-six 𝓤 H A W a d s p dp sp fit) $ move ! (2 ∷ 0 ∷ []) $ fjoin ! $ frame ! $ done !
+      suffices ! _ (ends-at 𝓤 H A face.ended stayed (face.clauses 𝓤 H A mem run) W (((κ, tt), (q, tt), tt, x, at), tt) u r (tt, (tt, (tt, (tt, (tt, (tt, (tt, (tt, tt)))))))) (tt, (tt, (tt, (tt, (tt, (tt, (tt, (tt, tt))))))))) $ says ! e $
+      move ! (1 ∷ []) $ frame ! $ use0 W (‵ (seven-own a d s p dp sp m)) (own-seven 𝓤 H A W a d s p dp sp m fit) $ move ! (2 ∷ 0 ∷ []) $ fjoin ! $ frame ! $ done !
 
   abbrev given : Scan 𝓤 H A mem run .Ghost
   given = (((κ, tt), (q, tt), tt, x, at), tt)
@@ -90,11 +90,11 @@ module _ {M : Type 1} (𝓤 : URA M) (H : Heap 𝓤) (A : Atoms 𝓤) (W : Given
   -- what the parameters own gives what `scan` asks, and the slice is kept
   asked : ent 𝓤 (onEntry 𝓤 H A face.signature (κ, tt) (q, tt) x at) (sep 𝓤 (Scan 𝓤 H A mem run .pre given) (sem 𝓤 H A Own))
   asked =
-      qed W ((‵ (flft κ q) ⊛ ‵ ftrue) ∷ ‵ (owns (ShrSlice (named 0) κ R.the-row ∷ u32 ∷ u32 ∷ u32 ∷ u32 ∷ u32 ∷ u32 ∷ []) x at) ∷ []) ∵
+      qed W ((‵ (flft κ q) ⊛ ‵ ftrue) ∷ ‵ (owns (ShrSlice (named 0) κ R.the-row ∷ u32 ∷ u32 ∷ u32 ∷ u32 ∷ u32 ∷ u32 ∷ u32 ∷ []) x at) ∷ []) ∵
       move ! (1 ∷ []) $ fsplit ! $ use1 W (‵ Own ⊛ ‵ Own) (shr-slice-copy 𝓤 H A W (named 0) κ R.the-row .twice (x .0) (slice ∷ [])) $ split ! $
       -- [the slice; the slice; the numbers; the token]
       move ! (0 ∷ 2 ∷ []) $ fjoin ! $ move ! (2 ∷ 0 ∷ []) $
-      use2 W (raw (Scan 𝓤 H A mem run .pre given)) (qed W ((‵ (flft κ q) ⊛ ‵ ftrue) ∷ ‵ (owns (ShrSlice (named 0) κ R.the-row ∷ u32 ∷ u32 ∷ u32 ∷ u32 ∷ u32 ∷ u32 ∷ []) x at) ∷ []) ∵ join ! $ frame ! $ done !) $ frame ! $ done !
+      use2 W (raw (Scan 𝓤 H A mem run .pre given)) (qed W ((‵ (flft κ q) ⊛ ‵ ftrue) ∷ ‵ (owns (ShrSlice (named 0) κ R.the-row ∷ u32 ∷ u32 ∷ u32 ∷ u32 ∷ u32 ∷ u32 ∷ u32 ∷ []) x at) ∷ []) ∵ join ! $ frame ! $ done !) $ frame ! $ done !
 
   said : (r : Winner) → ent 𝓤 (ensured 𝓤 H A scan.ended (scan.clauses 𝓤 H A mem run) (κ, tt) x tt r) (fact 𝓤 (r ≡ answer))
   said r = exE 𝓤 _ (λ ws. snd∗ 𝓤 (sem 𝓤 H A (lasts scan.ended (κ, tt) x ws)) (fact 𝓤 (r ≡ answer)))
@@ -102,29 +102,29 @@ module _ {M : Type 1} (𝓤 : URA M) (H : Heap 𝓤) (A : Atoms 𝓤) (W : Given
   walk : (𝓣 : Tables 𝓤 H) → Triple 𝓤 (𝓣 .C #scan·scan) (Scan 𝓤 H A mem run) → ent 𝓤 (onEntry 𝓤 H A face.signature (κ, tt) (q, tt) x at) (WpFn 𝓤 H (𝓣 .C) (𝓣 .Λ) code.function passed Post)
   walk 𝓣 known =
       qed W (raw (onEntry 𝓤 H A face.signature (κ, tt) (q, tt) x at) ∷ []) ∵ enter ! (𝓣 .C) (𝓣 .Λ) code.function passed _ $
-      alloc1 ! (λ l₀. alloc1 ! (λ l₁. alloc1 ! (λ l₂. alloc1 ! (λ l₃. alloc1 ! (λ l₄. alloc1 ! (λ l₅. alloc1 ! (λ l₆. alloc1 ! (λ l₇. alloc0 ! $ params1 ! $
-      pass1 ! (init ! 12 refl (tt, (tt, (record { fits = room .0 }, tt)))) $ pass1 ! (init ! 10 refl (tt, record { fits = fit .action })) $ pass1 ! (init ! 8 refl (tt, record { fits = fit .destination })) $ pass1 ! (init ! 6 refl (tt, record { fits = fit .source })) $
-      pass1 ! (init ! 4 refl (tt, record { fits = fit .protocol })) $ pass1 ! (init ! 2 refl (tt, record { fits = fit .destination-port })) $ pass1 ! (init ! 0 refl (tt, record { fits = fit .source-port })) $ pass0 ! $
-      move ! (16 ∷ []) $ use1 W (raw (Scan 𝓤 H A mem run .pre given) ⊛ ‵ Own) asked $ split ! $
-      -- [what `scan` asks; the slice; _7; …; _1; …; room for _0; …]
+      alloc1 ! (λ l₀. alloc1 ! (λ l₁. alloc1 ! (λ l₂. alloc1 ! (λ l₃. alloc1 ! (λ l₄. alloc1 ! (λ l₅. alloc1 ! (λ l₆. alloc1 ! (λ l₇. alloc1 ! (λ l₈. alloc0 ! $ params1 ! $
+      pass1 ! (init ! 14 refl (tt, (tt, (record { fits = room .0 }, tt)))) $ pass1 ! (init ! 12 refl (tt, record { fits = fit .action })) $ pass1 ! (init ! 10 refl (tt, record { fits = fit .destination })) $ pass1 ! (init ! 8 refl (tt, record { fits = fit .source })) $
+      pass1 ! (init ! 6 refl (tt, record { fits = fit .protocol })) $ pass1 ! (init ! 4 refl (tt, record { fits = fit .destination-port })) $ pass1 ! (init ! 2 refl (tt, record { fits = fit .source-port })) $ pass1 ! (init ! 0 refl (tt, record { fits = fit .portless })) $ pass0 ! $
+      move ! (18 ∷ []) $ use1 W (raw (Scan 𝓤 H A mem run .pre given) ⊛ ‵ Own) asked $ split ! $
+      -- [what `scan` asks; the slice; _8; …; _1; …; room for _0; …]
       calls-at ! (fmOf 𝓤 H (W .laws) 𝓣) (Scan 𝓤 H A mem run) known given
-      (and-then ! (load ! (from ! (stop !)) (look ! 14 refl)) (and-then ! (load ! (from ! (stop !)) (look ! 12 refl)) (and-then ! (load ! (from ! (stop !)) (look ! 10 refl)) (and-then ! (load ! (from ! (stop !)) (look ! 8 refl))
-      (and-then ! (load ! (from ! (stop !)) (look ! 6 refl)) (and-then ! (load ! (from ! (stop !)) (look ! 4 refl)) (and-then ! (load ! (from ! (stop !)) (look ! 2 refl)) (no-more !)))))))) (λ u.
+      (and-then ! (load ! (from ! (stop !)) (look ! 16 refl)) (and-then ! (load ! (from ! (stop !)) (look ! 14 refl)) (and-then ! (load ! (from ! (stop !)) (look ! 12 refl)) (and-then ! (load ! (from ! (stop !)) (look ! 10 refl))
+      (and-then ! (load ! (from ! (stop !)) (look ! 8 refl)) (and-then ! (load ! (from ! (stop !)) (look ! 6 refl)) (and-then ! (load ! (from ! (stop !)) (look ! 4 refl)) (and-then ! (load ! (from ! (stop !)) (look ! 2 refl)) (no-more !))))))))) (λ u.
       use1 W (later (some (λ (r : Winner). ((‵ (flft κ q) ⊛ ‵ ftrue) ⊛ ‵ (Win.the-row .own r (u ∷ []))) ⊛ raw (ensured 𝓤 H A scan.ended (scan.clauses 𝓤 H A mem run) (κ, tt) x tt r)))) (id⊢ 𝓤 _) $ await ! tt $ pick ! (λ r.
       split ! $ move ! (1 ∷ []) $ use1 W (raw (fact 𝓤 (r ≡ answer))) (said r) $ heard ! (r ≡ answer) (λ e. split ! $ move ! (1 ∷ []) $
-      -- [the result; the token; the slice; _7; …; _1; …; room for _0; …]
+      -- [the result; the token; the slice; _8; …; _1; …; room for _0; …]
       peeks ! Win.the-row (Is Win.the-row) (shows 𝓤 H A Win.the-row) r (u ∷ []) (λ is.
-      land ! (from ! (stop !)) (init ! 17 refl (LL.lawful Win.the-type Win′.the-laws 𝓤 H A W .typed r _ is .0)) $
-      returns ! (look ! 17 refl) $ forget ! 3 refl $ forget ! 5 refl $ forget ! 7 refl $ forget ! 9 refl $ forget ! 11 refl $ forget ! 13 refl $ forget ! 15 refl $ forget ! 17 refl $
-      move ! (17 ∷ 18 ∷ []) $ free1 ! $ move ! (15 ∷ 16 ∷ []) $ free1 ! $ move ! (13 ∷ 14 ∷ []) $ free1 ! $ move ! (11 ∷ 12 ∷ []) $ free1 ! $
-      move ! (9 ∷ 10 ∷ []) $ free1 ! $ move ! (7 ∷ 8 ∷ []) $ free1 ! $ move ! (5 ∷ 6 ∷ []) $ free1 ! $ move ! (3 ∷ 4 ∷ []) $ free1 ! $ free0 ! $ by ! (exits r u e)))))))))))))
+      land ! (from ! (stop !)) (init ! 19 refl (LL.lawful Win.the-type Win′.the-laws 𝓤 H A W .typed r _ is .0)) $
+      returns ! (look ! 19 refl) $ forget ! 3 refl $ forget ! 5 refl $ forget ! 7 refl $ forget ! 9 refl $ forget ! 11 refl $ forget ! 13 refl $ forget ! 15 refl $ forget ! 17 refl $ forget ! 19 refl $
+      move ! (19 ∷ 20 ∷ []) $ free1 ! $ move ! (17 ∷ 18 ∷ []) $ free1 ! $ move ! (15 ∷ 16 ∷ []) $ free1 ! $ move ! (13 ∷ 14 ∷ []) $ free1 ! $ move ! (11 ∷ 12 ∷ []) $ free1 ! $
+      move ! (9 ∷ 10 ∷ []) $ free1 ! $ move ! (7 ∷ 8 ∷ []) $ free1 ! $ move ! (5 ∷ 6 ∷ []) $ free1 ! $ move ! (3 ∷ 4 ∷ []) $ free1 ! $ free0 ! $ by ! (exits r u e))))))))))))))
 
 module _ {M : Type 1} (𝓤 : URA M) (H : Heap 𝓤) (A : Atoms 𝓤) (W : Given 𝓤 H A) (mem : Memory → SProp 𝓤) (run : Routine → Fun 𝓤) (𝓣 : Tables 𝓤 H) (known : Triple 𝓤 (𝓣 .C #scan·scan) (Scan 𝓤 H A mem run)) where
   face-walks : Walks 𝓤 H A face.ended stayed (WpFn 𝓤 H (𝓣 .C) (𝓣 .Λ) code.function) (face.clauses 𝓤 H A mem run)
   face-walks = walked 𝓤 H A face.ended stayed (face.clauses 𝓤 H A mem run) (WpFn 𝓤 H (𝓣 .C) (𝓣 .Λ) code.function) (λ κs. spells (κs .0)) (λ κs. tells (κs .0))
       (λ κs qs bounds c g are. via 𝓤 _ (fst∗ 𝓤 _ (emp 𝓤))
-      (walk 𝓤 H A W mem run (κs .0) (qs .0) (c .0 .ptr .0) (c .0 .ptr .1) (c .0 .name) (c .0 .now) (c .1 .0) (c .1 .1 .0) (c .1 .1 .1 .0) (c .1 .1 .1 .1 .0) (c .1 .1 .1 .1 .1 .0) (c .1 .1 .1 .1 .1 .1 .0) (are .0 .0 .1)
-      (record { action = are .1 .0 .1; destination = are .1 .1 .0 .1; source = are .1 .1 .1 .0 .1; protocol = are .1 .1 .1 .1 .0 .1; destination-port = are .1 .1 .1 .1 .1 .0 .1; source-port = are .1 .1 .1 .1 .1 .1 .0 .1 })
+      (walk 𝓤 H A W mem run (κs .0) (qs .0) (c .0 .ptr .0) (c .0 .ptr .1) (c .0 .name) (c .0 .now) (c .1 .0) (c .1 .1 .0) (c .1 .1 .1 .0) (c .1 .1 .1 .1 .0) (c .1 .1 .1 .1 .1 .0) (c .1 .1 .1 .1 .1 .1 .0) (c .1 .1 .1 .1 .1 .1 .1 .0) (are .0 .0 .1)
+      (record { action = are .1 .0 .1; destination = are .1 .1 .0 .1; source = are .1 .1 .1 .0 .1; protocol = are .1 .1 .1 .1 .0 .1; destination-port = are .1 .1 .1 .1 .1 .0 .1; source-port = are .1 .1 .1 .1 .1 .1 .0 .1; portless = are .1 .1 .1 .1 .1 .1 .1 .0 .1 })
       𝓣 known))
 
   face-meets : Meets 𝓤 H A face.signature (WpFn 𝓤 H (𝓣 .C) (𝓣 .Λ) code.function) (face.spec 𝓤 H A mem run)

@@ -2,11 +2,11 @@
 -- Assumes nothing.
 use mathlib.Core.Path.{_∙_}
 use borrow.Author.Needs.{needs}
-use Rattle.scan.proofs.Steps.{no, yes, out-1, out-2, out-3, out-4, last-5}
+use Rattle.scan.proofs.Steps.{no, yes, out-1, out-2, out-3, out-4, out-5, last-6}
 use Rattle.scan.proofs.held.Statement.{statement}
 use Rattle.scan.proofs.held.Tie as tie
 
--- `first` to `fourth` are the places behind a range that held its value
+-- `first` to `fifth` are the places behind a range that held its value
 returns : tie.Need-returns
 returns c =
     let args = c .before .before .before .before .args in
@@ -35,12 +35,22 @@ returns-4 c =
 
 returns-5 : tie.Need-returns-5
 returns-5 c =
-    let fourth = c .before .before .before in
+    let fourth = c .before .before .before .before in
     let third = fourth .before .before .before .before in
     let second = third .before .before .before .before in
     let first = second .before .before .before .before in
     let args = first .before .before .before .before .args in
-    c .within5 .ensures ∙ last-5 (args .packet) (args .t2) (yes (first .before .within .ensures) (first .if1 .left)) (yes (second .before .within2 .ensures) (second .if2 .left)) (yes (third .before .within3 .ensures) (third .if3 .left)) (yes (fourth .before .within4 .ensures) (fourth .if4 .left))
+    out-5 (args .packet) (args .t2) (yes (first .before .within .ensures) (first .if1 .left)) (yes (second .before .within2 .ensures) (second .if2 .left)) (yes (third .before .within3 .ensures) (third .if3 .left)) (yes (fourth .before .within4 .ensures) (fourth .if4 .left)) (no (c .before .within5 .ensures) (c .if5 .taken))
+
+returns-6 : tie.Need-returns-6
+returns-6 c =
+    let fifth = c .before .before .before in
+    let fourth = fifth .before .before .before .before in
+    let third = fourth .before .before .before .before in
+    let second = third .before .before .before .before in
+    let first = second .before .before .before .before in
+    let args = first .before .before .before .before .args in
+    c .within6 .ensures ∙ last-6 (args .packet) (args .t2) (yes (first .before .within .ensures) (first .if1 .left)) (yes (second .before .within2 .ensures) (second .if2 .left)) (yes (third .before .within3 .ensures) (third .if3 .left)) (yes (fourth .before .within4 .ensures) (fourth .if4 .left)) (yes (fifth .before .within5 .ensures) (fifth .if5 .left))
 
 pub held-spec : {M : Type 1} → statement M
 held-spec =
@@ -65,4 +75,8 @@ held-spec =
     (λ c. search needs)
     (λ c. search needs)
     (λ c κs. search needs)
-    returns-5)
+    returns-5
+    (λ c. search needs)
+    (λ c. search needs)
+    (λ c κs. search needs)
+    returns-6)
