@@ -184,10 +184,11 @@ extern "C" {
 /*
  * VERSION
  *
- * A higher minor number adds to this header, or changes the words of a
- * store; a higher major number changes what stands here.  CHANGELOG.md
- * says what.  Words that another version left may be no store of this one:
- * run reamstork_check before the first lookup in them.
+ * A higher minor number adds to this header; a higher major number changes
+ * what stands here.  CHANGELOG.md says what.  From 2.0 on every version
+ * takes the stores of 2.0 as they are.  Words of 1.0 or 1.1, or of a later
+ * version than this, may be no store of this one: run reamstork_check
+ * before the first lookup in them.
  */
 #define REAMSTORK_VERSION          "2.0"
 #define REAMSTORK_VERSION_MAJOR    2

@@ -320,17 +320,19 @@ static int lookups(const char *name, const char *call, const char *which)
 		past = first + 1;
 		rounds = PACKETS;
 	}
-	for (int round = 0; round < rounds; round++) for (int i = first; i < past; i++) {
-		const uint32_t *v = values[i];
+	for (int round = 0; round < rounds; round++) {
+		for (int i = first; i < past; i++) {
+			const uint32_t *v = values[i];
 
-		if (counts)
-			sum += both[plain].tally(words, len, packets[i], sizeof packets[i], &tallies).reads;
-		else if (scans)
-			sum += both[plain].scan(records, rule_count, 1, v[0], v[1], v[2], v[3], v[4], v[5]).rule;
-		else if (bytes)
-			sum += both[plain].lookup_packet(words, len, packets[i], sizeof packets[i]).reads;
-		else
-			sum += both[plain].lookup(words, len, v[0], v[1], v[2], v[3], v[4], v[5]).reads;
+			if (counts)
+				sum += both[plain].tally(words, len, packets[i], sizeof packets[i], &tallies).reads;
+			else if (scans)
+				sum += both[plain].scan(records, rule_count, 1, v[0], v[1], v[2], v[3], v[4], v[5]).rule;
+			else if (bytes)
+				sum += both[plain].lookup_packet(words, len, packets[i], sizeof packets[i]).reads;
+			else
+				sum += both[plain].lookup(words, len, v[0], v[1], v[2], v[3], v[4], v[5]).reads;
+		}
 	}
 	printf("%d %u\n", rounds * (past - first), sum);
 	return 0;

@@ -207,7 +207,7 @@ static void after_edit(struct store *s, uint32_t answer) {
     compare_from(s, 0, REFUSED_EDIT_WROTE);
     return;
   }
-  size_t end = s->c ? 1024 + 8 * (size_t)s->c : s->lent;
+  size_t end = s->c ? REAMSTORK_WORDS(s->c) : s->lent;
   compare_from(s, end < s->lent ? end : s->lent, WROTE_BEHIND);
   if (s->total) memcpy(s->copy, s->words, 4 * s->total);
 }

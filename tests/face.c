@@ -20,6 +20,8 @@ static int rules(void) {
   const uint32_t high[REAMSTORK_FIELDS] = {
     [REAMSTORK_PORTLESS] = 0, [REAMSTORK_SOURCE_PORT] = 59, [REAMSTORK_DESTINATION_PORT] = 48, [REAMSTORK_PROTOCOL] = 37, [REAMSTORK_SOURCE] = 26, [REAMSTORK_DESTINATION] = 15 };
 
+  SURE(reamstork_start(one, len, 100) == REAMSTORK_DONE);
+  SURE(reamstork_read(one, len, REAMSTORK_DEFAULT).action == REAMSTORK_DEFAULT_ACTION);
   SURE(reamstork_start_with(one, len, 100, 8) == REAMSTORK_DONE);
   SURE(reamstork_start_with(two, len, 100, 8) == REAMSTORK_DONE);
   SURE(reamstork_insert(one, len, 7, 70, low, high) == REAMSTORK_DONE);

@@ -3,14 +3,13 @@ have it: the rules that trace.py holds a trace to."""
 
 from collections import Counter, namedtuple
 
-from reference import read_header
+from laid import CELL, HEAD, ROW
+from reference import LEAST_CELLS, MOST_CELLS, read_header
 
 # The layout of a store, as docs/STORE.md has it.
-FRONT, CELL = 1024, 8          # the words before the cells, and those of a cell
+FRONT = 1024                   # the words before the cells
 BEGIN = 1023                   # the word that says where a walk begins
-ROWS, ROW = 47, 15             # where the rows begin, and the words of a row
 PLACES = 65                    # rows, and places of a tally record
-LEAST, MOST = 6, 65536         # cells
 KIND, MARK = 2, 0              # the word that names the kind, and what it says
 FRONT_LOADS = (0, 1, KIND, BEGIN) # what every lookup loads of the front, besides the rule's row
 RULE_LOADS = (0, 1)            # what it loads of that row: number and action
@@ -90,14 +89,14 @@ def name(place):
 
 def room_in(call):
     words = call.words
-    return call.len > 0 and LEAST <= words[0] <= MOST and call.len >= FRONT + CELL * words[0]
+    return call.len > 0 and LEAST_CELLS <= words[0] <= MOST_CELLS and call.len >= FRONT + CELL * words[0]
 
 
 def size_of(call):
     """The words of a call's store: behind them nothing may be touched."""
     if call.op in (START, START_WITH):
         c = call.numbers[0]
-        fits = LEAST <= c <= MOST and FRONT + CELL * c <= call.len
+        fits = LEAST_CELLS <= c <= MOST_CELLS and FRONT + CELL * c <= call.len
         return FRONT + CELL * c if fits else 0
     return FRONT + CELL * call.words[0] if room_in(call) else call.len
 
@@ -131,7 +130,7 @@ def see_walk(call, values, touched, result):
                     for part in (0, way))
     front = Counter(FRONT_LOADS)
     if place is not None:
-        front.update(ROWS + ROW * place + part for part in RULE_LOADS)
+        front.update(HEAD + ROW * place + part for part in RULE_LOADS)
         want = cells + front
         reads = sum(map(len, fields))
         expect(result[3] == reads or result[0], 'it counts %d reads, not %d', result[3], reads)
@@ -179,7 +178,7 @@ def see_tally(call, touched, result):
     row = None if values is None else walk(call, values)[1]
     loads = stores = Counter()
     if row is not None:
-        number = call.words[ROWS + ROW * row]
+        number = call.words[HEAD + ROW * row]
         held = number <= 65535 and number in keys
         free = [i for i, key in enumerate(keys) if key > 65535]
         place = keys.index(number) if held else free[0] if free else None

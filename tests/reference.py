@@ -9,7 +9,6 @@ nothing here can wrap round.
 from collections import namedtuple
 
 TOPS = (4294967295, 4294967295, 255, 65535, 65535, 1)
-FIELDS = ('destination', 'source', 'protocol', 'destination port', 'source port', 'portless')
 PORTS, PORTLESS = (3, 4), 5
 DEFAULT = 65535
 MOST_RULES = 64
@@ -17,7 +16,7 @@ LEAST_CELLS, MOST_CELLS = 6, 65536
 
 DONE = 0
 NUMBER_TOO_HIGH, BAD_RANGE, ALREADY_THERE, NOT_THERE, TABLE_FULL, NO_ROOM = 1, 2, 3, 4, 5, 6
-NOT_READABLE, BAD_START, BAD_STORE, BAD_PREFIX, ABOVE_TOP, BAD_CAPTURE = 7, 8, 9, 10, 11, 12
+NOT_READABLE, BAD_START, BAD_STORE, BAD_PREFIX, ABOVE_TOP = 7, 8, 9, 10, 11
 NO_PLACE = 13
 
 Rule = namedtuple('Rule', 'number action low high')

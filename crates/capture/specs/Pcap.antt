@@ -59,7 +59,7 @@ nextOf o s =
 -- ---- the whole capture
 
 -- the records, each as its captured bytes, and how they end: document 01's
--- "0 (ended at a record's edge), 1 (record cut short) or 2 (a whole record header with a captured length above 16,384 ..)"
+-- "0 (ended at a record's edge), 1 (record cut short) or 2 (a whole record header with a captured length above 16,384, [..])"
 pub record Listing : Type 0 where
   pub rows : List (List ℕ)
   pub ending : ℕ

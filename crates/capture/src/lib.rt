@@ -1,7 +1,7 @@
 // A classic capture file: how it is opened, and what the next record is.
 ghost use mathlib.Core.Path.{_≡_};
 ghost use mathlib.Core.List.{[], _∷_};
-ghost use Prim.Native.Nat.{_+_, _<_, _≤_};
+ghost use Prim.Native.Nat.{_<_, _≤_};
 ghost use lib.ListN.{length};
 ghost use lib.Dec.{leb};
 ghost use Rattle.capture.specs.Pcap.{startsWith, byMagic, opened, nextOf};

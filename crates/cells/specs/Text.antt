@@ -80,7 +80,7 @@ belows c stop b r = r
 belows c (loc e u t) b r =
     belows c t b (row c (marks c u (b + under t + width u)) (b + under t) (belows c u (b + under t + width u) r))
 
--- the text of a tree that is laid from cell a on, and then r: "A chain's cells stand side by side, its highest end first, and then what is below each of them, in the same order"
+-- the text of a tree that is laid from cell a on, and then r: a chain's cells stand side by side, its highest end first, and then what is below each of them, in the same order
 abbrev pub treeText : ℕ → Tree ℕ → ℕ → List ℕ → List ℕ
 treeText c t a r = row c (marks c t (a + width t)) a (belows c t (a + width t) r)
 

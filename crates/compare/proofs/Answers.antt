@@ -1,11 +1,11 @@
 -- Rows of tests, and what an answer says of its test.
 -- Assumes nothing.
-use mathlib.Core.Path.{_≡_, refl, sym, _∙_}
-use mathlib.Core.Bool.{Bool, true, false, not, _&&_}
+use mathlib.Core.Path.{_≡_, refl, sym}
+use mathlib.Core.Bool.{Bool, true, false, _&&_}
 use Prim.Native.Nat.{ℕ}
 use native.Mathlib.Omega.{arith}
 use lib.Dec.{eqb}
-use borrow.Author.Tests.{eq-eqb, ne-eqb, not-true, not-false}
+use borrow.Author.Tests.{eq-eqb, ne-eqb}
 use Rattle.model.proofs.Tests.{never}
 use Rattle.cells.specs.declared.Below.{Below}
 use Rattle.compare.specs.declared.Told.the-variants.{Same, Differs}
@@ -17,13 +17,6 @@ more {x} {y} h g = rw (eq-eqb x y h) g
 
 pub fails : {x y : ℕ} (b : Bool) → (x ≡ y → ⊥) → false ≡ (eqb x y && b)
 fails {x} {y} b h = rw (ne-eqb x y h)
-
--- what a callee's answer says that was turned round in a test
-pub was-no : {a b : Bool} → a ≡ b → not a ≡ true → b ≡ false
-was-no {a} h t = sym h ∙ not-true a t
-
-pub was-yes : {a b : Bool} → a ≡ b → not a ≡ false → b ≡ true
-was-yes {a} h t = sym h ∙ not-false a t
 
 -- the answer of a comparison, and its test
 pub answer-no : (b : Bool) (p : ℕ) (l : Below) → (b ≡ true → ⊥) → answer b p l ≡ Differs

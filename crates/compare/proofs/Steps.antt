@@ -13,7 +13,7 @@ use lib.Seq.{drop-length, drop-cons}
 use borrow.Author.Tests.{ltb-true, lt-ltb, le-ltb, eqb-true}
 use Rattle.model.specs.Lists.{keep}
 use Rattle.model.specs.Rules.{covers, ends, Tree, names, chain, cells}
-use Rattle.model.proofs.Tests.{never, and-left, and-right, and-both, same-test}
+use Rattle.model.proofs.Tests.{never, and-left, and-right, and-both, same-test, was-no, was-yes}
 use Rattle.rows.specs.Rows.{fieldAt, firstOf, treeAt, underAt, Flat}
 use Rattle.rows.proofs.Sets.{tree-none, tree-step}
 use Rattle.rows.proofs.Insert.{back}
@@ -24,7 +24,7 @@ use Rattle.compare.specs.declared.Told.the-variants.{Same, Differs}
 use Rattle.model.specs.Lists.{same}
 use Rattle.compare.specs.Compare.{Room, from, told, headIs, restIs, before, headsAre, toldRun}
 use Rattle.model.proofs.UpTo.{same-true, true-same, same-false}
-use Rattle.compare.proofs.Answers.{was-no, was-yes, answer-no, answer-differs, answer-same}
+use Rattle.compare.proofs.Answers.{answer-no, answer-differs, answer-same}
 use Rattle.cells.proofs.Text.{marks-len, cells-sum}
 use Rattle.cells.specs.States.{Narrows}
 use Rattle.cells.proofs.Lent.{lent}

@@ -25,7 +25,7 @@ fn count_ends(
     n as u32
 }
 
-// The number of locations of the tree of the rules whose rows begin at the first n numbers of sets, over left fields from field on; room + 1 where they are more than room. It stops as soon as they are: a tree of 64 rules can have 10^10 locations.
+// The number of locations of the tree of the rules whose rows begin at the first n numbers of sets, over left fields from field on; room + 1 where they are more than room. It stops as soon as they are: a tree of 64 rules can have hundreds of millions of locations.
 pub fn count_chain(
     rules: &[u32],
     more: &[u32],

@@ -10,12 +10,12 @@ use lib.Dec.{ltb}
 use lib.ListN.{length}
 use borrow.Author.Tests.{ltb-true, lt-ltb}
 use Rattle.model.specs.Lists.{In, Rising, keep, below, sum, upTo}
-use Rattle.model.specs.Rules.{Field, covers, ends, readsEach, readsSum}
-use Rattle.model.specs.Table.{Kind, Rule, fieldsFrom, fields}
+use Rattle.model.specs.Rules.{covers, ends, readsEach, readsSum}
+use Rattle.model.specs.Table.{Kind, Rule, fieldsFrom, fields, fieldOf}
 use Rattle.model.proofs.Tests.{by-test}
 use Rattle.model.proofs.Keep.{in-keep, from-keep}
 use Rattle.model.proofs.Ends.{in-ends, from-ends, ends-rising}
-use Rattle.demands.specs.Calls.{fieldCount, valueAt, lowAt, highAt}
+use Rattle.demands.specs.Calls.{fieldCount, valueAt}
 use Rattle.demands.specs.Demand3.{EndOf, Reads}
 use Rattle.demands.proofs.Fields.{At, covered, covering}
 
@@ -28,10 +28,6 @@ module _ (v : ℕ) where
   keep-below : (es : List ℕ) → length (keep (λ e. ltb e v) es) ≡ below v es
   keep-below [] = refl
   keep-below (e ∷ es) = by-test (ltb e v) (λ q. rw q (ap suc (keep-below es))) (λ q. rw q (keep-below es))
-
--- field i of a table's rules, with the top t
-abbrev fieldOf : ℕ → ℕ → Field (List ℕ) Rule
-fieldOf i t = record { top = t; value = λ vs. valueAt vs i; low = λ r. lowAt r i; high = λ r. highAt r i }
 
 module _ (vs : List ℕ) where
   -- the rules that are left behind field i

@@ -134,6 +134,11 @@ record-each : (ws : List ℕ) (h : Passes ipv4 ws) (p : Packet) (t : WithinTops 
 unfolding record-count
 record-each ws h p t = most-each ipv4 ipv4-shaped ws h (valuesIn p) (tops-right p t)
 
+packet-tight : (ws : List ℕ) → Passes ipv4 ws → (bytes : List ℕ) → Bytes bytes → lookupPacket ws bytes .reads ≤ (fieldCount ipv4 + 1) * length (rulesIn ipv4 ws) + fieldCount ipv4
+packet-tight ws h bytes b = by-header _ bytes
+    (λ u. rw (unreadable-7 ws bytes u) (omega arith))
+    (λ p e. rw (readable-is ws bytes p e) (tight ipv4 ipv4-shaped ws h (valuesIn p) (tops-right p (within-tops bytes p b e))))
+
 pub demand3 : Demand3
 demand3 =
     let s = ipv4-shaped in
@@ -147,4 +152,5 @@ demand3 =
       most-each = record-each;
       most = λ ws h p t. most ipv4 s ws h (valuesIn p) (tops-right p t);
       tight = λ ws h p t. tight ipv4 s ws h (valuesIn p) (tops-right p t);
+      tight-packet = packet-tight;
     }

@@ -3,20 +3,20 @@
 use mathlib.Core.Path.{_≡_, refl, sym, ap, ap₂, _∙_}
 use mathlib.Core.Bool.{Bool, true, false, cond}
 use mathlib.Core.List.{List, [], _++_, append-assoc}
-use Prim.Native.Nat.{ℕ, _+_, _-_, _*_, _≤_}
+use Prim.Native.Nat.{ℕ, _+_, _-_, _≤_}
 use native.Mathlib.Omega.{arith}
 use lib.ListN.{length, getD, take, drop, length-append, length-drop}
-use lib.Seq.{take-at, drop-at, length-take-le}
+use lib.Seq.{take-at, drop-at}
 use borrow.Author.Tests.{le-leb, eq-eqb, ne-eqb}
 use Rattle.model.specs.Lists.{same}
-use Rattle.model.specs.Rules.{Tree, cells}
+use Rattle.model.specs.Rules.{cells}
 use Rattle.model.specs.Table.{Kind, Rule, Table, Shaped, rowWords, within, withRule, without, cellsOf, insertAnswer, deleteAnswer}
 use Rattle.model.proofs.Tests.{and-left, and-right, and-both}
 use Rattle.model.proofs.UpTo.{same-true, true-same}
 use Rattle.model.proofs.Edits.{taken, insert-within, delete-within, delete-fewer}
 use Rattle.model.proofs.Decide.{default-cells}
-use Rattle.cells.specs.Text.{frees, marks, belows, width, part}
-use Rattle.cells.proofs.Text.{row-length, belows-length, marks-len, cells-sum, part-length}
+use Rattle.cells.specs.Text.{part}
+use Rattle.cells.proofs.Text.{part-length}
 use Rattle.table.specs.Rows.{rowsText, tableIn}
 use Rattle.table.proofs.Edits.{rows-long}
 use Rattle.layout.specs.Named.{stored}
@@ -24,14 +24,8 @@ use Rattle.layout.specs.Store.{size, headText, text, cellsIn, rowsOf, tableOf, 
 use Rattle.layout.proofs.Words.{round-trip}
 use Rattle.layout.proofs.Bridge.{stored-cells}
 use Rattle.layout.proofs.Parts.{head-length}
-use Rattle.layout.proofs.Sound.{Roomy, roomy, room-is}
-
-part-least : (c : ℕ) (t : Tree ℕ) → 2 + 8 * cells t ≤ length (part c t)
-unfolding part
-part-least c t =
-    let r = frees (cells t) (c - cells t) in
-    let n = 0 + width t in
-    omega (arith, row-length c (marks c t n) 0 (belows c t n r), belows-length c t n r, marks-len c t n, cells-sum t)
+use Rattle.layout.proofs.Sound.{Roomy, roomy, room-is, sound}
+use Rattle.layout.proofs.Passed.{sound-most}
 
 -- a refusal keeps the words, and an answer 0 leaves the new ones
 pub refused-keeps : (a : ℕ) (new ws : List ℕ) → (a ≡ 0 → ⊥) → unless a new ws ≡ ws
@@ -112,20 +106,7 @@ module _ (k : Kind) (s : Shaped k) where
     begins-with = same-true _ _ (behind-room .2)
 
     pub fits : cellsOf k (tableOf k ws) ≤ cellsIn ws
-    unfolding text
-    fits =
-        let c = cellsIn ws in
-        let t = tableOf k ws in
-        let l : length (take (size k c) ws) ≡ length (text k c t) = ap length begins-with in
-        omega (
-          arith,
-          length-take-le (size k c) ws (room .long),
-          simp length-append at l,
-          head-length k s c (length (t .rules)) [],
-          rows-long k t,
-          part-least c (stored k t),
-          stored-cells k s t right,
-        )
+    fits = sound-most k s ws (sound k s ws h)
 
   -- AN ACCEPTED START, INSERT AND DELETE
   leaves : (ws : List ℕ) (c : ℕ) (t : Table) → Roomy k c ws → within k t ≡ true → cellsOf k t ≤ c → Leaves k ws (holding k c t ws) c t

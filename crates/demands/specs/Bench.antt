@@ -1,5 +1,5 @@
 -- THE STARRED LIST of document 01, "Bench table", carried through the calls: a start over any words that are enough for c cells, the inserts, the lookups. c is any number from 54 on, and 53 where an insert gets 6: P4 has each count with one field more. (Its rules and rows are written out in model/specs/Bench.antt, and its two prefixes proved in prefix/specs/Examples.antt.)
--- `Starred` is what is claimed; proofs/Bench.antt proves it. Assumes nothing.
+-- `StarredCalls` is what is claimed; proofs/Bench.antt proves it. Assumes nothing.
 use mathlib.Core.Path.{_≡_}
 use mathlib.Core.List.{List, map}
 use Prim.Native.Nat.{ℕ, _≤_}

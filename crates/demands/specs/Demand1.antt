@@ -86,7 +86,7 @@ pub record Demand1 : Type 0 where
   -- THE RULE AT PLACE p, counted from 1: 9, then 4 where there are fewer rules
   pub rule-at : (ws : List ℕ) (p : ℕ) → Refuses 9 (Passes ipv4 ws → ⊥) (Refuses 4 ((p ≡ 0) ⊎ (length (rulesIn ipv4 ws) < p)) done) (placeSays ipv4 ws p)
   pub rule-at-zeros : (ws : List ℕ) (p : ℕ) → placeSays ipv4 ws p ≢ 0 → placeGives ipv4 ws p ≡ zeroRule ipv4
-  -- THE CHECK, and the CELLS in use
+  -- THE CELLS in use. (The check itself answers 0 where `Passes` holds, and else 9: `checkSays` of reamstork/specs/Face.antt.)
   pub cells : (ws : List ℕ) → Refuses 9 (Passes ipv4 ws → ⊥) done (cellsSays ipv4 ws)
   pub cells-zeros : (ws : List ℕ) → cellsSays ipv4 ws ≢ 0 → cellsGives ipv4 ws ≡ 0
   -- LOOKUP BY VALUES: "7 or 11, then 9"; over words that pass it is never 9 (Demand 2)

@@ -95,3 +95,5 @@ pub record Demand3 : Type 0 where
   pub most : (ws : List ℕ) → Passes ipv4 ws → (p : Packet) → WithinTops p → lookup ws p .reads ≤ fieldCount ipv4 * (2 * length (rulesIn ipv4 ws) + 1)
   -- and a tighter one: a rule that is kept adds at most one end in a field, and one that is dropped at most two, once
   pub tight : (ws : List ℕ) → Passes ipv4 ws → (p : Packet) → WithinTops p → lookup ws p .reads ≤ (fieldCount ipv4 + 1) * length (rulesIn ipv4 ws) + fieldCount ipv4
+  -- the same of a lookup by a packet, whatever its bytes
+  pub tight-packet : (ws : List ℕ) → Passes ipv4 ws → (bytes : List ℕ) → Bytes bytes → lookupPacket ws bytes .reads ≤ (fieldCount ipv4 + 1) * length (rulesIn ipv4 ws) + fieldCount ipv4

@@ -43,7 +43,7 @@ pub record LeadsDown (k : Kind) (ws : List ℕ) (v j d : ℕ) : Type 0 where
 
 -- it leads nowhere
 pub data LeadsNowhere (k : Kind) (ws : List ℕ) (v j : ℕ) : Type 0 where
-  -- "at the first link outside the cells, [..] at a chain that runs out", since that ends with the link "no cell"
+  -- "at the first link outside the cells [..], at a chain that runs out", since that ends with the link "no cell"
   outside : (n m : ℕ) → n < cellsIn ws → EndsBelow k ws v n j m → cellsIn ws ≤ m → LeadsNowhere k ws v j
   -- "after c cells of one field without an end at or above the value"
   spent : (m : ℕ) → EndsBelow k ws v (cellsIn ws) j m → LeadsNowhere k ws v j

@@ -1,17 +1,14 @@
 -- Which of a packet's values is above its top, where its addresses are words.
 -- Assumes nothing.
-use mathlib.Core.Path.{_≡_, refl}
-use mathlib.Core.Bool.{Bool, true, false, _&&_}
+use mathlib.Core.Path.{_≡_}
+use mathlib.Core.Bool.{Bool, false}
 use mathlib.Core.List.{[], _∷_}
 use Prim.Native.Nat.{ℕ, _≤_, _<_}
 use lib.Dec.{leb}
 use borrow.Author.Tests.{le-leb, lt-leb}
 use Rattle.model.specs.Table.{packetRight}
 use Rattle.model.specs.Ipv4.{ipv4}
-
-alone : (a : Bool) → a ≡ (a && true)
-alone true = refl
-alone false = refl
+use Rattle.model.proofs.Tests.{and-true}
 
 module _ (d s p dp sp m : ℕ) (hd : d ≤ 4294967295) (hs : s ≤ 4294967295) where
   abbrev Right : Bool → Type 0
@@ -29,4 +26,4 @@ module _ (d s p dp sp m : ℕ) (hd : d ≤ 4294967295) (hs : s ≤ 4294967295) w
       from-port-high h = simp (le-leb d _ hd, le-leb s _ hs, le-leb p 255 a, le-leb dp 65535 b, lt-leb sp 65535 h)
 
       pub by-mark : sp ≤ 65535 → Right (leb m 1)
-      by-mark h = simp (le-leb d _ hd, le-leb s _ hs, le-leb p 255 a, le-leb dp 65535 b, le-leb sp 65535 h) (alone (leb m 1))
+      by-mark h = simp (le-leb d _ hd, le-leb s _ hs, le-leb p 255 a, le-leb dp 65535 b, le-leb sp 65535 h) (and-true (leb m 1))

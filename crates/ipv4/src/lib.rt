@@ -1,4 +1,4 @@
-// The kind of store of the IPv4 gateway, and a rule as its caller has it: six low and six high ends by field. Here alone the code has the numbers of the layout and of the fields.
+// The kind of store of the IPv4 gateway, and a rule as its caller has it: six low and six high ends by field. Here alone the code has the numbers of the layout and the tops; the six fields stand by name also where a packet's values are taken one by one.
 ghost use mathlib.Core.Path.{_≡_};
 ghost use mathlib.Core.List.{[], _∷_};
 ghost use lib.ListN.{length};

@@ -8,10 +8,10 @@ use mathlib.Core.Option.{Option, none, some, Option·map, Option·some-ne-none}
 use Prim.Native.Nat.{ℕ, suc, _+_, _*_, _≤_, _<_}
 use native.Mathlib.Omega.{arith}
 use native.Mathlib.Numerals.{add-one}
-use lib.ListN.{length, getD}
+use lib.ListN.{length}
 use Rattle.model.specs.Lists.{In, keep, least}
-use Rattle.model.specs.Rules.{Field, covers, ends, names, chain, tree, cells, found, reads}
-use Rattle.model.specs.Table.{Kind, Rule, Table, Shaped, everyRule, numberOf, fieldsFrom, defaultRule, treeOf, cellsOf, winnerOf, readsOf, packetRight, risingFrom, within}
+use Rattle.model.specs.Rules.{covers, ends, names, chain, tree, cells, found, reads}
+use Rattle.model.specs.Table.{Kind, Rule, Table, Shaped, everyRule, numberOf, fieldsFrom, defaultRule, treeOf, cellsOf, winnerOf, readsOf, packetRight, risingFrom, within, fieldOf}
 use Rattle.model.proofs.Keep.{from-keep, from-append}
 use Rattle.model.proofs.Sets.{least-first}
 use Rattle.model.proofs.Limits.{rises, in-rising, from-within}
@@ -51,10 +51,6 @@ ordered-rising k a b (r ∷ rs) h =
     go s (inl i) = omega (arith, in-rising (suc (r .number)) rs (rises b r rs h .2) s i .0)
     go s (inr (inl e)) = omega (arith, ap numberOf e, rises b r rs h .1)
     go s (inr (inr z)) = absurd z
-
--- field i of a table's rules, with the top s
-abbrev fieldOf : ℕ → ℕ → Field (List ℕ) Rule
-fieldOf i s = record { top = s; value = λ p. getD p i 0; low = λ r. getD (r .lows) i 0; high = λ r. getD (r .highs) i 0 }
 
 -- Any words whose rows at the places qs hold a table's rules, by rising number, the default's last.
 module _ (k : Kind) (t : Table) (rows : List ℕ) (first : ruleIn (length (k .tops)) rows 0 ≡ defaultRule k (t .action)) where

@@ -11,7 +11,7 @@ use Rattle.cells.specs.Text.{part}
 use Rattle.table.specs.Rows.{rowsText, tableIn}
 use Rattle.layout.specs.Named.{stored}
 
--- "A store of c cells takes 1,024 + 8 × c words of 32 bits": the front of its kind, and 8 for each cell
+-- "A store of c cells [..] takes 1,024 + 8 × c words of 32 bits": the front of its kind, and 8 for each cell
 abbrev pub size : Kind → ℕ → ℕ
 size k c = front k + 8 * c
 
@@ -38,7 +38,7 @@ partOf k c ws = take (2 + 8 * c) (drop (k .head + rowWords k) ws)
 abbrev pub tableOf : Kind → List ℕ → Table
 tableOf k ws = tableIn k (getD ws 1 0) (rowsOf k ws)
 
--- c is "5 to 65,536", one cell for each field at least, and the words are enough for it
+-- c is one cell for each field at least ("5 to 65,536", and by P4 "The least c becomes 6"), and the words are enough for it
 abbrev pub roomFor : Kind → ℕ → List ℕ → Bool
 roomFor k c ws = leb (length (k .tops)) c && (leb c 65536 && leb (size k c) (length ws))
 
@@ -54,7 +54,7 @@ holding k c t ws = text k c t ++ drop (size k c) ws
 abbrev pub unless : ℕ → List ℕ → List ℕ → List ℕ
 unless answer new ws = cond (eqb answer 0) new ws
 
--- START: 8 where "c outside 5 to 65,536, or slice too short"; a store of the default alone
+-- START: 8 where "c outside 5 to 65,536, or slice too short", with 6 for 5 by P4; a store of the default alone
 abbrev pub startAnswer : Kind → List ℕ → ℕ → ℕ
 startAnswer k ws c = cond (roomFor k c ws) 0 8
 

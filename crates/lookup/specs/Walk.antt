@@ -33,7 +33,7 @@ unfoldable pub throughOf : List ℕ → ℕ → List ℕ → ℕ → ℕ → Wal
 throughOf part c [] k r = At k r
 throughOf part c (v ∷ vs) k r = onFrom (λ d n. throughOf part c vs d (r + n)) (seekOf part c v c k 0)
 
--- the walk of a part for the values, one for each field: where it comes to, and "the number of cells that the walk reads"
+-- the walk of a part for the values, one for each field: where it comes to, and "the number of cells that the walk [..] reads"
 unfoldable pub walkOf : List ℕ → ℕ → List ℕ → Walked
 walkOf part c vs = throughOf part c vs (getD part 1 0) 0
 

@@ -1,11 +1,11 @@
 -- Tests with two answers: what follows from each, and two tests that agree.
 -- Assumes nothing.
-use mathlib.Core.Path.{_≡_, refl, sym}
-use mathlib.Core.Bool.{Bool, true, false, _&&_}
+use mathlib.Core.Path.{_≡_, refl, sym, _∙_}
+use mathlib.Core.Bool.{Bool, true, false, not, _&&_}
 use Prim.Native.Nat.{ℕ, _≤_}
 use native.Mathlib.Omega.{arith}
 use lib.Dec.{leb}
-use borrow.Author.Tests.{leb-true, le-leb}
+use borrow.Author.Tests.{leb-true, le-leb, not-true, not-false}
 
 -- what follows from a test and from its negation holds
 pub by-test : {X : Type 0} (b : Bool) → (b ≡ true → X) → (b ≡ false → X) → X
@@ -25,6 +25,18 @@ and-right false b t = never (sym t)
 
 pub and-both : (a b : Bool) → a ≡ true → b ≡ true → (a && b) ≡ true
 and-both a b s t = rw s t
+
+-- what a test says whose answer a was turned round
+pub was-no : {a b : Bool} → a ≡ b → not a ≡ true → b ≡ false
+was-no {a} h t = sym h ∙ not-true a t
+
+pub was-yes : {a b : Bool} → a ≡ b → not a ≡ false → b ≡ true
+was-yes {a} h t = sym h ∙ not-false a t
+
+-- a last test that is always passed changes nothing
+pub and-true : (a : Bool) → a ≡ (a && true)
+and-true true = refl
+and-true false = refl
 
 -- two tests of which each follows from the other
 pub same-test : (a b : Bool) → (a ≡ true → b ≡ true) → (b ≡ true → a ≡ true) → a ≡ b

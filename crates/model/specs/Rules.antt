@@ -23,7 +23,7 @@ abbrev pub holds : {P A : Type 0} → List (Field P A) → P → A → Bool
 holds [] p r = true
 holds (f ∷ fs) p r = covers f (f .value p) r && holds fs p r
 
--- "the rule with the least number among those whose ranges all hold the packet's values"
+-- "the rule with the least number among those whose [..] ranges all hold the packet's [..] values"
 abbrev pub winner : {P A : Type 0} → (A → ℕ) → A → List (Field P A) → P → List A → A
 winner number d fs p rs = least number d (keep (holds fs p) rs)
 
@@ -37,7 +37,7 @@ abbrev pub ends : {P A : Type 0} → Field P A → List A → List ℕ
 ends f [] = []
 ends f (r ∷ rs) = insert (f .high r) (insertBefore (f .low r) (ends f rs))
 
--- for each field "one plus the distinct ends below the packet's value, taken over the rules that hold its earlier values"
+-- for each field "one plus the distinct ends, [..] below the packet's value, taken over the rules that hold its earlier values"
 abbrev pub readsEach : {P A : Type 0} → List (Field P A) → P → List A → List ℕ
 readsEach [] p rs = []
 readsEach (f ∷ fs) p rs = suc (below (f .value p) (ends f rs)) ∷ readsEach fs p (keep (covers f (f .value p)) rs)
@@ -57,7 +57,7 @@ abbrev pub chain : {B : Type 0} → (ℕ → Tree B) → List ℕ → Tree B
 chain u [] = stop
 chain u (e ∷ es) = loc e (u e) (chain u es)
 
--- "one location for each distinct end, in rising order. Under a location stands the tree, over the next fields, of the rules that cover it"; g says what is named where the rules rs are left
+-- "one location for each distinct end, in rising order, [..] Under a location stands the tree, over the next fields, of the rules that cover it"; g says what is named where the rules rs are left
 abbrev pub tree : {P A B : Type 0} → (List A → B) → List (Field P A) → List A → Tree B
 tree g [] rs = names (g rs)
 tree g (f ∷ fs) rs = chain (λ e. tree g fs (keep (covers f e) rs)) (ends f rs)

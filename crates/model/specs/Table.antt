@@ -51,11 +51,14 @@ pub record Table : Type 0 where
 abbrev pub numberOf : Rule → ℕ
 numberOf r = r .number
 
--- the fields whose tops are given; the first of them reads place i of a packet's values and of a rule's ends
+-- field i (from 0), with its top: it reads place i of a packet's values and of a rule's ends
+abbrev pub fieldOf : ℕ → ℕ → Field (List ℕ) Rule
+fieldOf i t = record { top = t; value = λ p. getD p i 0; low = λ r. getD (r .lows) i 0; high = λ r. getD (r .highs) i 0 }
+
+-- the fields whose tops are given, from field i on
 abbrev pub fieldsFrom : ℕ → List ℕ → List (Field (List ℕ) Rule)
 fieldsFrom i [] = []
-fieldsFrom i (t ∷ ts) =
-    record { top = t; value = λ p. getD p i 0; low = λ r. getD (r .lows) i 0; high = λ r. getD (r .highs) i 0 } ∷ fieldsFrom (suc i) ts
+fieldsFrom i (t ∷ ts) = fieldOf i t ∷ fieldsFrom (suc i) ts
 
 abbrev pub fields : Kind → List (Field (List ℕ) Rule)
 fields k = fieldsFrom 0 (k .tops)

@@ -1,13 +1,14 @@
 -- The steps of the scan, as the code takes them: what the definitions say at each way on.
 -- Assumes nothing.
-use mathlib.Core.Path.{_≡_, refl, sym, _∙_}
-use mathlib.Core.Bool.{Bool, true, false, not, _&&_}
+use mathlib.Core.Path.{_≡_}
+use mathlib.Core.Bool.{Bool, true, false, _&&_}
 use Prim.Native.Nat.{ℕ, _≤_, _<_}
 use lib.Dec.{leb}
 use lib.ListN.{getD}
-use borrow.Author.Tests.{le-leb, lt-leb, not-true, not-false}
+use borrow.Author.Tests.{le-leb, lt-leb}
 use Rattle.model.specs.Table.{packetRight}
 use Rattle.model.specs.Ipv4.{ipv4}
+use Rattle.model.proofs.Tests.{and-true}
 use Rattle.header.specs.declared.Packet.{Packet}
 use Rattle.header.specs.declared.Header.the-variants.{Values}
 use Rattle.header.specs.Header.{valuesOf}
@@ -16,17 +17,6 @@ use Rattle.ipv4.specs.Rule.{given}
 use Rattle.model.specs.Lists.{upTo}
 use Rattle.scan.specs.declared.Lead.{Lead}
 use Rattle.scan.specs.Scan.{holdsPacket, noWinner, precedesLead, stepped, finished}
-
--- where the code found x of the test a, and `!x` came out so
-pub no : {a x : Bool} → x ≡ a → not x ≡ true → a ≡ false
-no {x = x} e h = sym e ∙ not-true x h
-
-pub yes : {a x : Bool} → x ≡ a → not x ≡ false → a ≡ true
-yes {x = x} e h = sym e ∙ not-false x h
-
-alone : (a : Bool) → a ≡ (a && true)
-alone true = refl
-alone false = refl
 
 -- A RANGE
 module _ (l v h : ℕ) where
@@ -66,7 +56,7 @@ module _ (p : Packet) (r : Given) where
 
   pub last-6 : Range 0 (p .destination) ≡ true → Range 1 (p .source) ≡ true → Range 2 (p .protocol) ≡ true → Range 3 (p .«destination_port») ≡ true → Range 4 (p .«source_port») ≡ true → Held (Range 5 (p .portless))
   unfolding upTo
-  last-6 a b c d e = rw (a, b, c, d, e) (alone (Range 5 (p .portless)))
+  last-6 a b c d e = rw (a, b, c, d, e) (and-true (Range 5 (p .portless)))
 
 -- THE LEAD after a record more
 module _ (l : Lead) (r : Given) where

@@ -34,21 +34,21 @@ module _ (test : ℕ → Bool) where
   pub before-first : (keys : List ℕ) → None test keys (firstPlace test keys)
   unfolding firstPlace
   before-first [] j l = absurd (omega arith)
-  before-first (key ∷ keys) j l = by-test (before-first keys) (test key) refl j l
+  before-first (key ∷ keys) j l = pick (before-first keys) (test key) refl j l
     where
-      by-test : None test keys (firstPlace test keys) → (b : Bool) → test key ≡ b → (j : ℕ) → j < cond b 0 (suc (firstPlace test keys)) → test (getD (key ∷ keys) j 0) ≡ false
-      by-test rest true q j l = absurd (omega arith)
-      by-test rest false q zero l = q
-      by-test rest false q (suc j) l = rest j (omega arith)
+      pick : None test keys (firstPlace test keys) → (b : Bool) → test key ≡ b → (j : ℕ) → j < cond b 0 (suc (firstPlace test keys)) → test (getD (key ∷ keys) j 0) ≡ false
+      pick rest true q j l = absurd (omega arith)
+      pick rest false q zero l = q
+      pick rest false q (suc j) l = rest j (omega arith)
 
   pub first-passes : (keys : List ℕ) → firstPlace test keys < length keys → test (getD keys (firstPlace test keys) 0) ≡ true
   unfolding firstPlace
   first-passes [] l = absurd (omega arith)
-  first-passes (key ∷ keys) l = by-test (first-passes keys) (test key) refl l
+  first-passes (key ∷ keys) l = pick (first-passes keys) (test key) refl l
     where
-      by-test : (firstPlace test keys < length keys → test (getD keys (firstPlace test keys) 0) ≡ true) → (b : Bool) → test key ≡ b → cond b 0 (suc (firstPlace test keys)) < suc (length keys) → test (getD (key ∷ keys) (cond b 0 (suc (firstPlace test keys))) 0) ≡ true
-      by-test rest true q l = q
-      by-test rest false q l = rest (omega arith)
+      pick : (firstPlace test keys < length keys → test (getD keys (firstPlace test keys) 0) ≡ true) → (b : Bool) → test key ≡ b → cond b 0 (suc (firstPlace test keys)) < suc (length keys) → test (getD (key ∷ keys) (cond b 0 (suc (firstPlace test keys))) 0) ≡ true
+      pick rest true q l = q
+      pick rest false q l = rest (omega arith)
 
   -- one key more that does not pass
   pub none-more : (keys : List ℕ) (n : ℕ) → None test keys n → test (getD keys n 0) ≡ false → None test keys (n + 1)
