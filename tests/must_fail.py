@@ -10,14 +10,8 @@ copy of the crate, over what `rt check` has proved of it (prover.py), so that on
 what the edit touches is proved again. Run `rt check` first. --all tries both, --jobs
 says how many provers at once, --why prints the error of each refusal too.
 
-Most of what an edit costs is the same for all edits of a crate, so several are tried in
-one copy of it. A function is proved from the contracts of those that it calls, so an
-error in its own proof comes from its own edit alone. Where an edit changes the body of
-one function, that function is put beside itself under another name, with its contract
-and its proof, and the change is made there. Functions that call themselves, that C calls
-or that are walked by hand are changed where they stand, those together of which none calls
-another. An edit that is not refused so is tried in a copy of its own; --apart tries all of
-them so.
+Several edits are tried in one copy of a crate (beside.py). One that is not refused so is
+tried in a copy of its own; --apart tries all of them so.
 
 The form is that of `rt must-fail`, one line for each part:
     # what must hold and the edit breaks, or what the edit does wrong
@@ -46,23 +40,17 @@ tests/must-fail/kept.txt names, a line CRATE/LABEL for each; it writes the page 
 """
 
 import argparse
-import re
 import subprocess
 import sys
 from collections import Counter
 
-from mutate import Source
-from prover import JOBS, ROOT, SHAPE, Kit, NotProved, crates, over_baselines
+from beside import Bad, Functions, together
+from prover import JOBS, ROOT, Kit, NotProved, crates, over_baselines
 
 HERE = ROOT / 'tests/must-fail'
 PAGE = ROOT / 'docs/EDITS.md'
 LIMIT = 600  # seconds for one edit
-BESIDE = 8  # wrong functions in one copy of a crate
 PASSED = ('refused', 'shape, meant')
-
-
-class Bad(Exception):
-    """An edit that is not of the form."""
 
 
 class Edit:
@@ -112,6 +100,21 @@ class Edit:
             texts[file] = text.replace(old, new)
         return texts
 
+    def function(self, functions):
+        """The one function whose body has every change of the edit, or nothing."""
+        found = set() if not self.fault else {None}
+        for file, old, _ in self.changes:
+            found.add(functions.around(old) if file == functions.file else None)
+        return found.pop() if len(found) == 1 else None
+
+    def wrong(self, functions, name):
+        """The function as the edit has it."""
+        self.texts()
+        text = functions.whole(name)
+        for _, old, new in self.changes:
+            text = text.replace(old, new)
+        return text
+
 
 def edits_of(crate):
     folders = (ROOT / 'crates' / crate / 'must-fail', HERE / crate)
@@ -127,123 +130,6 @@ def kept():
 
 
 # ---- trying them
-
-class Functions:
-    """The functions of a crate: where their bodies are, and which ones they call."""
-
-    def __init__(self, crate, file):
-        self.crate, self.file = crate, file
-        source = Source((ROOT / 'crates' / crate / file).read_text())
-        self.text, words = source.text, source.words
-        names = {f.name for f in source.functions}
-        self.bodies = {f.name: (source.tokens[f.first].start, source.tokens[f.last].end)
-                       for f in source.functions}
-        self.reached = {f.name: names.intersection(words[f.first:f.last]) for f in source.functions}
-        for _ in names:  # the calls of the calls
-            for found in self.reached.values():
-                found.update(*[self.reached[name] for name in found])
-
-    def changed(self, edit):
-        """The one function whose body has every change of the edit, or nothing."""
-        found = set()
-        for file, old, _ in edit.changes:
-            at = self.text.find(old) if file == self.file else -1
-            found.update([name for name, (first, last) in self.bodies.items()
-                          if first <= at and at + len(old) <= last] or [None])
-        return found.pop() if len(found) == 1 else None
-
-    def proofs(self, name):
-        """The files of a function's proof; there are none where rattle makes it."""
-        return sorted((ROOT / 'crates' / self.crate / 'proofs' / name).glob('**/*.antt'))
-
-    def head(self, name):
-        """Where the function begins, unless it is one that stands only where it is."""
-        head = re.search(r'(?m)^(?:pub )?fn %s\(' % name, self.text)
-        by_hand = any('.Code as ' in path.read_text() for path in self.proofs(name))
-        if head and name != 'main' and name not in self.reached[name] and not by_hand:
-            return head.start()
-        return None
-
-    def beside(self, group):
-        """The files of the crate with each function of the group, {new name: edit}, as its
-        edit has it, beside itself."""
-        texts = {self.file: self.text}
-        for new, edit in group.items():
-            name = self.changed(edit)
-            edit.texts()
-            text = self.text[self.head(name):self.bodies[name][1]]
-            for _, old, wrong in edit.changes:
-                text = text.replace(old, wrong)
-            texts[self.file] += '\n' + re.sub(r'\bfn %s\(' % name, 'fn %s(' % new, text, 1) + '\n'
-            for path in self.proofs(name):
-                proof = re.sub(r'(·proofs\.proofs\.)%s(?=[.\s])' % name, r'\g<1>' + new, path.read_text())
-                proof = re.sub(r'(?<![\w-])%s-spec(?![\w-])' % name.replace('_', '-'),
-                               new.replace('_', '-') + '-spec', proof)
-                place = path.relative_to(ROOT / 'crates' / self.crate / 'proofs' / name)
-                texts['proofs/%s/%s' % (new, place)] = proof
-        return texts
-
-    def apart(self, name, others):
-        return not any(name == other or name in self.reached[other] or other in self.reached[name]
-                       for other in others)
-
-    def groups(self, edits):
-        """The edits, in groups that can be made in one copy, each {function: edit}."""
-        made, alone, many = [], [], {}
-        for edit in edits:
-            name = None if edit.fault else self.changed(edit)
-            if name and self.head(name) is not None:
-                many['%s_w%d' % (name, len(many))] = edit
-                continue
-            free = [group for group in made if name and self.apart(name, group)]
-            if free:
-                free[0][name] = edit
-            else:
-                (made if name else alone).append({name: edit})
-        many = list(many.items())
-        return made + alone + [dict(many[i:i + BESIDE]) for i in range(0, len(many), BESIDE)]
-
-
-def own_error(crate, out, text, name):
-    """The first error in the proof of this function itself, or nothing."""
-    if not re.search(r'(?m)^fn %s::%s:? (not proved|no proof)' % (crate, name), out):
-        return None
-    for line in out.splitlines():
-        proof = re.match(r'proofs/([^/]+)/.*\berror\b', line)
-        if proof and name in proof[1].split('+') and 'was not admitted' not in line:
-            return line
-        note = re.match(r'note: src/\w+\.rt:(\d+):\d+: it is not proved that', line)
-        if note and name == function_at(text, int(note[1])):
-            return line
-    return None
-
-
-def function_at(text, line):
-    """The function that begins at this line: its attributes stand before its head."""
-    head = re.search(r'\bfn (\w+)', '\n'.join(text.split('\n')[line - 1:]))
-    return head and head[1]
-
-
-def together(crate, base, group, functions):
-    """The edits of the group that are refused in one copy, each with the line that shows it
-    and its part of the prover's seconds."""
-    texts = {}
-    try:
-        if group.keys() <= functions.bodies.keys():
-            for edit in group.values():
-                texts = edit.texts(texts)
-        else:
-            texts = functions.beside(group)
-    except Bad:
-        return {}
-    status, out, took = base.check(texts, LIMIT)
-    found = {}
-    for name, edit in group.items() if status == 1 else ():
-        first = own_error(crate, out, texts[functions.file], name)
-        if first and not SHAPE.search(first):
-            found[edit] = ('refused', first, took / len(group))
-    return found
-
 
 def one(base, edit):
     """The outcome, the line that shows it, and the prover's seconds."""
@@ -281,8 +167,9 @@ def try_all(options):
             base = baseline()
         except NotProved as problem:
             return {edit: ('bad edit', str(problem), 0) for edit in group.values()}
-        found = together(crate, base, group, functions[crate]) if len(group) > 1 else {}
-        return {edit: found.get(edit) or one(base, edit) for edit in group.values()}
+        found = together(base, group, functions[crate], LIMIT) if len(group) > 1 else {}
+        facts = {edit: ('refused', *rest) for edit, (what, *rest) in found.items() if what == 'fact'}
+        return {edit: facts.get(edit) or one(base, edit) for edit in group.values()}
 
     groups = {crate: [{edit.name: edit} for edit in edits] if options.apart else
               functions[crate].groups(edits) for crate, edits in chosen.items()}

@@ -16,7 +16,7 @@ that does the same.
 spread over its functions, with more from public calls; the seed chooses.
 --only checks those that are named, --list names them and checks none.
 --seconds ends the run when so much time is used, --limit is the time for one
-mutant, --cut the length at which an error is cut, --jobs how many mutants are
+copy of a crate, which may hold several mutants (beside.py), --cut the length at which an error is cut, --jobs how many mutants are
 checked at once (default: one for each processor, at most 4). A program, and the libraries
 of the program `cases`, are left out unless they are named: what it prints is held to a file,
 not to a contract.
@@ -40,6 +40,7 @@ import time
 from collections import Counter
 from hashlib import sha256
 
+from beside import Functions, together
 from mutate import Finder, Source, apply
 from prover import JOBS, ROOT, Kit, NotProved, over_baselines
 
@@ -48,6 +49,21 @@ OUTCOMES = ('fact', 'shape', 'not compiled', 'no verdict', 'same', 'survived')
 
 # Libraries that only a program calls, and whose contracts say only that they are safe.
 OF_A_PROGRAM = ('script', 'calls')
+
+
+class Change:
+    """A mutant as a change to its crate, of those that beside.py puts into one copy."""
+
+    def __init__(self, mutant):
+        self.mutant = mutant
+
+    def function(self, functions):
+        name = self.mutant.function
+        return name if functions.head(name) is not None else None
+
+    def wrong(self, functions, name):
+        text = apply(functions.text, self.mutant.edits)
+        return text[functions.head(name):functions.bodies[name][1] + len(text) - len(functions.text)]
 
 
 def difference(old, new):
@@ -130,12 +146,18 @@ class Run:
             sys.exit('no such mutant: %s' % ' '.join(sorted(unknown)))
         return plan
 
-    def one(self, crate, baseline, m):
-        """The outcome, the line that shows it, and the prover's seconds; nothing when it is late."""
+    def each(self, crate, baseline, group):
+        """Of each mutant of the group the outcome, the line that shows it, and the prover's
+        seconds; nothing when it is late."""
         base = baseline()
         if self.late():
-            return None
-        new = {self.kit.files[crate]: apply(self.sources[crate].text, m.edits)}
+            return {}
+        found = together(base, group, self.functions[crate], self.options.limit) if len(group) > 1 else {}
+        return {change.mutant: found.get(change) or self.alone(base, change.mutant)
+                for change in group.values()}
+
+    def alone(self, base, m):
+        new = {self.kit.files[m.crate]: apply(self.sources[m.crate].text, m.edits)}
         return base.judge(new, self.options.limit)
 
     def count(self, m, what, first, took):
@@ -152,9 +174,12 @@ class Run:
 
     def all(self, plan):
         self.counts = {crate: Counter() for crate in plan}
-        for _, m, found in over_baselines(self.kit, plan, self.one, self.options.jobs):
-            if found:
-                self.count(m, *found)
+        self.functions = {crate: Functions(crate, self.kit.files[crate]) for crate in plan}
+        groups = {crate: self.functions[crate].groups(map(Change, mutants))
+                  for crate, mutants in plan.items()}
+        for _, _, found in over_baselines(self.kit, groups, self.each, self.options.jobs):
+            for m, outcome in found.items():
+                self.count(m, *outcome)
 
     def report(self):
         total = Counter()

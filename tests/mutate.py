@@ -394,6 +394,8 @@ class Finder:
         w = self.w
         if w[i - 1] not in ('{', '}', ';') or not re.match(r'[^\W\d]', w[i]):
             return
+        if not self.in_braces(i):  # behind the ; of an array
+            return
         if w[i] in ('let', 'return', 'while', 'match'):
             return
         if w[i] == 'if':

@@ -1,0 +1,163 @@
+"""Puts several wrong functions into one copy of a crate: what mutants.py and must_fail.py share.
+
+Most of what a change costs is the same for all changes of a crate, so several are tried in
+one copy of it. A function is proved from the contracts of those that it calls, so an
+error in its own proof comes from its own change alone. Where a change is in the body of
+one function, that function is put beside itself under another name, with its contract
+and its proof, and the change is made there; one that calls itself calls itself there too.
+Functions that call each other in a ring, that C calls or that are walked by hand are changed
+where they stand, those together of which none calls another. What is not refused so is to be
+tried in a copy of its own.
+
+A change is an object with
+    function(functions)     the one function that it is in, or nothing
+    wrong(functions, name)  that function as the change has it, from its head on
+    texts(others)           the crate's changed files, {name: text}, over those that are
+                            changed already
+and raises Bad where it cannot be made.
+"""
+
+import re
+
+from mutate import Source
+from prover import ROOT, SHAPE
+
+MOST = 16  # wrong functions in one copy of a crate
+
+
+class Bad(Exception):
+    """A change that cannot be made."""
+
+
+class Functions:
+    """The functions of a crate: where their bodies are, and which ones they call."""
+
+    def __init__(self, crate, file):
+        self.crate, self.file = crate, file
+        source = Source((ROOT / 'crates' / crate / file).read_text())
+        self.text, words = source.text, source.words
+        names = {f.name for f in source.functions}
+        self.bodies = {f.name: (source.tokens[f.first].start, source.tokens[f.last].end)
+                       for f in source.functions}
+        self.reached = {f.name: {words[i] for i in range(f.first, f.last) if words[i] in names
+                                 and words[i + 1] == '(' and words[i - 1] != '::'}
+                        for f in source.functions}
+        for _ in names:  # the calls of the calls
+            for found in self.reached.values():
+                found.update(*[self.reached[name] for name in found])
+
+    def around(self, text):
+        """The function whose body has this text, or nothing."""
+        at = self.text.find(text)
+        return next((name for name, (first, last) in self.bodies.items()
+                     if first <= at and at + len(text) <= last), None)
+
+    def whole(self, name):
+        """The function's text, from its head on."""
+        return self.text[self.head(name):self.bodies[name][1]]
+
+    def folder(self, name):
+        """The folder of a function's proof: it begins with + where the function calls itself."""
+        plus = '+' if name in self.reached.get(name, ()) else ''
+        return ROOT / 'crates' / self.crate / 'proofs' / (plus + name)
+
+    def proofs(self, name):
+        """The files of a function's proof; there are none where rattle makes it."""
+        return sorted(self.folder(name).glob('**/*.antt'))
+
+    def in_ring(self, name):
+        return any(name in self.reached[other] for other in self.reached[name] - {name})
+
+    def head(self, name):
+        """Where the function begins, unless it is one that stands only where it is."""
+        head = re.search(r'(?m)^(?:pub )?fn %s\(' % name, self.text)
+        by_hand = any('.Code as ' in path.read_text() for path in self.proofs(name))
+        if head and name != 'main' and not by_hand and not self.in_ring(name):
+            return head.start()
+        return None
+
+    def beside(self, group):
+        """The files of the crate with each function of the group, {new name: change}, as its
+        change has it, beside itself."""
+        texts = {self.file: self.text}
+        for new, change in group.items():
+            name = change.function(self)
+            text = change.wrong(self, name)
+            texts[self.file] += '\n' + re.sub(r'(?<!::)\b%s\(' % name, new + '(', text) + '\n'
+            for path in self.proofs(name):
+                folder = self.folder(name).name.replace(name, new)
+                place = path.relative_to(self.folder(name))
+                texts['proofs/%s/%s' % (folder, place)] = renamed(path.read_text(), name, new)
+        return texts
+
+    def apart(self, name, others):
+        return not any(name == other or name in self.reached[other] or other in self.reached[name]
+                       for other in others)
+
+    def groups(self, changes):
+        """The changes, in groups that can be made in one copy, each {function: change}."""
+        made, alone, many = [], [], {}
+        for change in changes:
+            name = change.function(self)
+            if name and self.head(name) is not None:
+                many['%s_w%d' % (name, len(many))] = change
+                continue
+            free = [group for group in made if name and self.apart(name, group)]
+            if free:
+                free[0][name] = change
+            else:
+                (made if name else alone).append({name: change})
+        many, copies = list(many.items()), -(-len(many) // MOST)
+        return made + alone + [dict(many[i::copies]) for i in range(copies)]
+
+
+def renamed(proof, name, new):
+    """A function's proof as that of the same function under another name: its modules, what
+    is needed where it calls itself and what such a call gave, and the theorem."""
+    short, long = name.replace('_', '-'), new.replace('_', '-')
+    proof = re.sub(r'(·proofs\.proofs\.\+?)%s(?=[.\s])' % name, r'\g<1>' + new, proof)
+    proof = re.sub(r'\bLts-%s(?!\w)' % name, 'Lts-' + new, proof)
+    proof = re.sub(r'(?<=\.)%s(?=\d*(?![\w-]))' % short, long, proof)
+    proof = re.sub(r'\bNeed-%s(?=-)' % short, 'Need-' + long, proof)
+    return re.sub(r'(?<![\w-])%s-spec(?![\w-])' % short, long + '-spec', proof)
+
+
+def own_error(crate, out, text, name):
+    """The first error in the proof of this function itself, or nothing."""
+    if not re.search(r'(?m)^fn %s::%s:? (not proved|no proof)' % (crate, name), out):
+        return None
+    for line in out.splitlines():
+        proof = re.match(r'proofs/([^/]+)/.*\berror\b', line)
+        if proof and name in proof[1].split('+') and 'was not admitted' not in line:
+            return line
+        note = re.match(r'note: src/\w+\.rt:(\d+):\d+: it is not proved that', line)
+        if note and name == function_at(text, int(note[1])):
+            return line
+    return None
+
+
+def function_at(text, line):
+    """The function that begins at this line: its attributes stand before its head."""
+    head = re.search(r'\bfn (\w+)', '\n'.join(text.split('\n')[line - 1:]))
+    return head and head[1]
+
+
+def together(base, group, functions, limit):
+    """The changes of the group that are refused in one copy: fact or shape, the line that
+    shows it, and its part of the prover's seconds."""
+    texts = {}
+    try:
+        if group.keys() <= functions.bodies.keys():
+            for change in group.values():
+                texts = change.texts(texts)
+        else:
+            texts = functions.beside(group)
+    except Bad:
+        return {}
+    status, out, took = base.check(texts, limit)
+    found = {}
+    for name, change in group.items() if status == 1 else ():
+        first = own_error(functions.crate, out, texts[functions.file], name)
+        if first:
+            found[change] = ('shape' if SHAPE.search(first) else 'fact', first, took / len(group))
+    return found
