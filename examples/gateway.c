@@ -58,8 +58,9 @@ static const struct {
 	{ 24, { 0x45,0,0,24, 0,5,0,100, 64,17,0,0, 10,0,9,7, 10,0,0,5, 1,2,3,4 } },			/* later fragment */
 	{ 20, { 0x45,0,0,20, 0,6,0x40,0, 64,1,0,0, 10,0,9,7, 172,16,0,1 } },				/* ICMP */
 	{ 24, { 0x45,0,0,24, 0,7,0x40,0, 64,6,0,0, 10,0,9,7, 172,16,0,1, 0x9c,0x40,0,80 } },		/* TCP, port 80 */
-	{ 19, { 0x45,0,0,28, 0,8,0x40,0, 64,17,0,0, 10,0,9,7, 10,0,0 } },				/* cut short */
+	{ 19, { 0x45,0,0,28, 0,8,0x40,0, 64,17,0,0, 10,0,9,7, 10,0,0 } },				/* no whole header */
 	{ 24, { 0x60,0,0,24, 0,9,0x40,0, 64,6,0,0, 10,0,9,7, 10,0,0,5, 0,1,0,2 } },			/* not version 4 */
+	{ 24, { 0x45,0,0,28, 0,10,0x40,0, 64,17,0,0, 10,0,9,7, 10,0,0,5, 0x9c,0x40,0x13,0x8c } },	/* cut short: 24 bytes of 28 */
 };
 
 static uint32_t store[REAMSTORK_WORDS(1920)];
@@ -104,7 +105,7 @@ static uint32_t list(void)
 
 int main(void)
 {
-	uint32_t counts[ACTIONS] = { 0 }, unreadable = 0, worst = 0;
+	uint32_t counts[ACTIONS] = { 0 }, unreadable = 0, cut = 0, worst = 0;
 
 	if (reamstork_start_with(store, store_len, 1920, FORWARD) != REAMSTORK_DONE)
 		return 1;
@@ -122,7 +123,9 @@ int main(void)
 		reamstork_found f = reamstork_lookup_packet_tally(store, store_len, frames[i].bytes, frames[i].len, &tallies);
 
 		if (f.answer == REAMSTORK_UNREADABLE)
-			unreadable++;
+			unreadable++;	/* not IPv4, or a bad header: dropped */
+		else if (f.answer == REAMSTORK_CUT)
+			cut++;		/* dropped too, but the header is sound: is the receive buffer too small? */
 		else if (f.answer != REAMSTORK_DONE || f.action >= ACTIONS)
 			return 1;	/* the words were damaged, load them again; 13 cannot come, the record began clear and no rule was deleted */
 		else
@@ -136,6 +139,6 @@ int main(void)
 	for (int i = 0; i < REAMSTORK_PLACES; i++)
 		if (tallies.key[i] <= REAMSTORK_DEFAULT)
 			printf("rule %" PRIu32 ": %" PRIu32 " packets, %" PRIu32 " bytes\n", tallies.key[i], tallies.packets[i], tallies.bytes[i]);
-	printf("unreadable: %" PRIu32 "\nmost reads: %" PRIu32 "\n", unreadable, worst);
+	printf("unreadable: %" PRIu32 "\ncut short: %" PRIu32 "\nmost reads: %" PRIu32 "\n", unreadable, cut, worst);
 	return 0;
 }

@@ -190,8 +190,8 @@ extern "C" {
  * version than this, may be no store of this one: run reamstork_check
  * before the first lookup in them.
  */
-#define REAMSTORK_VERSION          "2.0"
-#define REAMSTORK_VERSION_MAJOR    2
+#define REAMSTORK_VERSION          "3.0"
+#define REAMSTORK_VERSION_MAJOR    3
 #define REAMSTORK_VERSION_MINOR    0
 
 /*
@@ -249,6 +249,7 @@ extern "C" {
 #define REAMSTORK_BAD_VALUE        11  /* value above its top */
 /* 12 is the bench program's alone:      capture not accepted */
 #define REAMSTORK_NO_PLACE         13  /* no slot left in the tally record */
+#define REAMSTORK_CUT              14  /* packet cut short: fewer bytes than its total length */
 
 typedef struct { uint32_t answer, rule, action, reads; } reamstork_found;
 typedef struct { uint32_t answer, number, action, low[6], high[6]; } reamstork_rule;
@@ -261,7 +262,7 @@ typedef struct { uint32_t answer, rule, action; } reamstork_winner;
 /*
  * AN ANSWER AS A TEXT
  *
- * The text that stands beside the number above, for 0 to 13, and for any
+ * The text that stands beside the number above, for 0 to 14, and for any
  * other number "unknown answer".  For people: compare numbers, not texts.
  */
 static inline const char *reamstork_answer(uint32_t answer)
@@ -281,6 +282,7 @@ static inline const char *reamstork_answer(uint32_t answer)
 	case REAMSTORK_BAD_VALUE: return "value above its top";
 	case 12: return "capture not accepted";
 	case REAMSTORK_NO_PLACE: return "no slot left in the tally record";
+	case REAMSTORK_CUT: return "packet cut short: fewer bytes than its total length";
 	default: return "unknown answer";
 	}
 }
@@ -488,6 +490,7 @@ reamstork_found reamstork_lookup(const uint32_t *words, size_t len, uint32_t des
  * `packet` begins at the IPv4 header.
  *
  *   7  packet not readable
+ *  14  packet cut short
  *   9  as in reamstork_lookup
  *   0  as in reamstork_lookup, for the values that the header gives
  *
@@ -495,9 +498,17 @@ reamstork_found reamstork_lookup(const uint32_t *words, size_t len, uint32_t des
  *
  * A packet is not readable exactly when one of these holds: packet_len is
  * below 20; the version is not 4; the header length is below 5 words; the
- * total length is below the header's; packet_len is below the total
- * length; the protocol is 6 or 17, the fragment offset is 0, and the total
- * length leaves fewer than 4 bytes behind the header.
+ * total length is below the header's; the protocol is 6 or 17, the fragment
+ * offset is 0, and the total length leaves fewer than 4 bytes behind the
+ * header.
+ *
+ * A packet is cut short exactly when none of these holds and packet_len is
+ * below the total length.  So 14 tells a short capture from a bad header:
+ * the first 20 bytes are sound, and the rest of the packet was not lent.
+ * That is typical of a capture with a snapshot length.  The first 24 bytes
+ * of a sound UDP packet of 28 get 14, its first 19 get 7.  A packet that is
+ * cut short is not decided, also where the bytes that are there would give
+ * all of its values.
  *
  * Where the protocol is 6 or 17 and the fragment offset is 0 the ports are
  * the first two 16-bit numbers behind the header, source first, and
@@ -533,6 +544,7 @@ void reamstork_tallies_clear(reamstork_tallies *tallies);
  * LOOK UP AN IPV4 PACKET, AND COUNT IT
  *
  *   7  as in reamstork_lookup_packet
+ *  14  as in reamstork_lookup_packet
  *   9  as in reamstork_lookup
  *  13  no slot holds the number of the rule that decides, and none is
  *      unused

@@ -46,6 +46,44 @@ def without_ports():
             to('10.0.0.200', 17, offset=1)]
 
 
+def cut_short(order):
+    """Packets that are cut short, that are not readable, and that are whole. The first two are
+    those of request P5."""
+    udp = example_packets()[0]
+    here = (address('10.0.0.5'), address('192.168.1.9'))
+    records = [
+        (udp[:24], 28), (udp[:19], 19), (b'\x65' + udp[1:24], 28),
+        (packet_of(here + (17, 5004, 40000), total=22)[:22], 22),
+        (udp, 28), (udp[:20], 28), (udp[:27], 28),
+        # 7 and 14 at once: no room for ports by the total length, and the slice is short
+        (packet_of(here + (17, 5004, 40000), total=23)[:22], 23),
+        # ICMP, a later fragment, and a header with options of which 20 bytes are there
+        (packet_of(here + (1, 2048, 0), behind=bytes(36))[:24], 60),
+        (packet_of(here + (17, 5004, 40000), offset=1, behind=bytes(36))[:24], 60),
+        (packet_of(here + (6, 80, 40000), words=15)[:20], 64),
+        # the total length alone counts, not the packet's length as the record has it
+        (packet_of(here + (6, 80, 40000)), 60), (udp + b'past', 32)]
+    return capture_of([], order) + b''.join(
+        header_of(len(packet), order, original) + packet for packet, original in records)
+
+
+CUT_SHORT = HEAD + '''1 14 0 0 0
+2 7 0 0 0
+3 7 0 0 0
+4 7 0 0 0
+5 0 10 2 9
+6 14 0 0 0
+7 14 0 0 0
+8 7 0 0 0
+9 14 0 0 0
+10 14 0 0 0
+11 14 0 0 0
+12 0 20 3 7
+13 0 10 2 9
+end 13 0
+'''
+
+
 def cases():
     """(name, capture, what must be written)"""
     packets = example_packets()
@@ -61,6 +99,9 @@ def cases():
         # by the port rule rule 10 holds packets with ports alone, rule 20 all
         yield case('without_ports', capture_of(without_ports(), order),
                    HEAD + '1 0 20 3 7\n2 0 20 3 8\n3 0 10 2 9\n4 0 65535 1 9\nend 4 0\n')
+
+        # 14 beside 7 and 0
+        yield case('cut_short', cut_short(order), CUT_SHORT)
 
         # how the list ends
         yield case('edge', whole, EXAMPLE_OUTPUT)

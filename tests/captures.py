@@ -3,11 +3,13 @@
 
     tests/captures.py [--install] [--bench CMD..] [--seed N]
 
-Packets go through text2pcap, tcpdump and scapy into capture files. The
-reference's capture reader must find the same bytes in them, its header reader
-the same six values as tshark, tcpdump and scapy, and, with --bench, the bench
-program must write what the reference writes. Tools that are missing are
-installed with --install; a part without its tool is skipped and counted.
+Packets go through text2pcap, tcpdump, editcap and scapy into capture files,
+whole and cut by a snapshot length; tcpdump also captures some of this machine's
+own, where it has leave to. The reference's capture reader must find the
+same bytes in them, its header reader the same six values as tshark, tcpdump and
+scapy, and the same packets cut short. With --bench, the bench program must write
+what the reference writes. Tools that are missing are installed with --install; a
+part without its tool is skipped and counted.
 """
 
 import argparse
@@ -15,17 +17,21 @@ import os
 import random
 import re
 import shutil
+import socket
 import subprocess
 import sys
 import tempfile
 
 from independent import command_line
 from packets import address, capture_of
-from reference import BENCH_RULES, bench_output, capture_records, default_rule, read_header
+from reference import (BENCH_RULES, bench_output, capture_records, default_rule, header_fault,
+                       read_header)
 from tables import random_packet
 
 PACKAGES = ('tshark', 'tcpdump', 'python3-scapy')
 PYTHONS = (sys.executable, 'python3', '/usr/bin/python3')
+SNAPS = (19, 20, 24, 27, 40)  # snapshot lengths
+ETHERNET = bytes(12) + b'\x08\x00'
 
 
 class Missing(Exception):
@@ -109,7 +115,7 @@ class Captures:
         reference's."""
         told, with_ports, bad = 0, 0, []
         for packet, theirs in zip(packets, values):
-            ours = read_header(packet)
+            ours = read_header(packet)[1]
             if ours is None or theirs is None:
                 continue
             told += 1
@@ -119,6 +125,21 @@ class Captures:
         print('%s: %d packets, %d read by both, %d of them with ports' % (
             what, len(packets), told, with_ports))
         self.verdict(len(packets) == len(values) and told and not bad, '%s: %s' % (what, bad[:3]))
+
+    def answers(self, packets, theirs, what):
+        """Answers by a tool's own reading, None where it says nothing, beside the reference's.
+        With 20 bytes and more some must be 14."""
+        ours = [read_header(packet)[0] for packet in packets]
+        bad = [(packet.hex(), a, b) for packet, a, b in zip(packets, ours, theirs)
+               if b is not None and a != b]
+        cut = sum(b == 14 for b in theirs)
+        print('%s: %d packets, %d cut short' % (what, len(packets), cut))
+        self.verdict(len(packets) == len(theirs) and (cut or max(map(len, packets)) < 20)
+                     and not bad, '%s: %s' % (what, bad[:3]))
+
+    def write(self, path, *capture, **more):
+        with open(path, 'wb') as file:
+            file.write(capture_of(*capture, **more))
 
     # -- parts --
 
@@ -162,13 +183,11 @@ class Captures:
         packets = some_packets(self.rng, 1500)
         first, second = self.path('ours.pcap'), self.path('tcpdump.pcap')
         for order in ('big', 'little'):
-            with open(first, 'wb') as file:
-                file.write(capture_of(packets, order))
+            self.write(first, packets, order)
             run([tcpdump, '-r', first, '-w', second])
             self.examine(second, packets, 'a file by tcpdump')
-        readable = [packet for packet in packets if read_header(packet)]
-        with open(first, 'wb') as file:
-            file.write(capture_of(readable))
+        readable = [packet for packet in packets if read_header(packet)[1]]
+        self.write(first, readable)
         out = run([tcpdump, '-nn', '-v', '-t', '-r', first]).decode(errors='replace')
         blocks = re.split(r'\n(?=IP \()', out)
         self.compare(readable, [self.tcpdump_values(block) for block in blocks], 'tcpdump')
@@ -185,26 +204,131 @@ class Captures:
             ports = (int(head[6]), int(head[4]), 0) if head[6] and head[4] else (None, None, 0)
         return (address(head[5]), address(head[3]), protocol) + ports
 
+    def editcap(self):
+        """Files of ours cut by editcap to a snapshot length, and tshark's own reading of what
+        is left. On Ethernet its 14 bytes count among that length, and go as README has it."""
+        editcap, tshark = tool('editcap'), tool('tshark')
+        packets = some_packets(self.rng, 600)
+        first, second, third = map(self.path, ('ours.pcap', 'cut.pcap', 'raw.pcap'))
+        for snap in SNAPS:
+            left = [packet[:snap] for packet in packets]
+            what = 'snapshot length %d' % snap
+            self.write(first, packets, self.rng.choice(('big', 'little')))
+            run([editcap, '-F', 'pcap', '-s', str(snap), first, second])
+            self.examine(second, left, 'a file by editcap, ' + what)
+            self.answers(left, self.tshark_answers(tshark, second), 'tshark, ' + what)
+            self.write(first, [ETHERNET + packet for packet in packets], link=1)
+            run([editcap, '-F', 'pcap', '-s', str(snap + len(ETHERNET)), first, second])
+            run([editcap, '-F', 'pcap', '-T', 'rawip', '-C', '14', second, third])
+            self.examine(third, left, 'a file by editcap from Ethernet, ' + what)
+
+    def tshark_answers(self, tshark, path):
+        """7, 14 or 0 by the numbers that tshark finds in the header; none of these where it
+        calls a packet limited during capture that by them is whole."""
+        names = ('frame.cap_len', 'ip.version', 'ip.hdr_len', 'ip.len', 'ip.proto',
+                 'ip.frag_offset', '_ws.short')
+        out = run([tshark, '-n', '-r', path, '-o', 'ip.defragment:FALSE',
+                   '-o', 'ip.tso_support:FALSE', '-T', 'fields',
+                   '-E', 'occurrence=f', '-E', 'separator=|']
+                  + [part for name in names for part in ('-e', name)])
+        answers = []
+        for line in out.decode().split('\n')[:-1]:
+            *numbers, short = line.split('|')
+            size, version, header, total, protocol, offset = (int(n or -1) for n in numbers)
+            ports = 4 if protocol in (6, 17) and offset == 0 else 0
+            bad = size < 20 or version != 4 or header < 20 or total < header + ports
+            answers.append(7 if bad else 14 if size < total else -1 if short else 0)
+        return answers
+
+    def live(self):
+        """Packets of this machine to itself, cut by tcpdump -s while it captures them. (What
+        tcpdump reads from a file it passes on whole.)"""
+        tcpdump, editcap = tool('tcpdump'), tool('editcap')
+        for snap in SNAPS:
+            sizes = [self.rng.choice((0, 1, 11, 12, 13, 30, 400)) for _ in range(12)] + [0, 13]
+            first, second = map(self.path, ('live.pcap', 'raw.pcap'))
+            self.caught(tcpdump, snap + len(ETHERNET), sizes, first)
+            run([editcap, '-F', 'pcap', '-T', 'rawip', '-C', '14', first, second])
+            packets = capture_records(self.held(second))[0]
+            what = 'tcpdump -s %d on the loopback' % (snap + len(ETHERNET))
+            self.verdict([len(packet) for packet in packets] == [min(28 + n, snap) for n in sizes],
+                         'the lengths by ' + what)
+            self.answers(packets, [7 if snap < 20 else 14 if snap < 28 + n else 0 for n in sizes],
+                         what)
+            self.bench(self.held(second), what)
+
+    def caught(self, tcpdump, snap, sizes, path):
+        """Sends UDP packets that carry so many bytes, which tcpdump captures."""
+        with socket.socket(socket.AF_INET, socket.SOCK_DGRAM) as here, \
+                socket.socket(socket.AF_INET, socket.SOCK_DGRAM) as there:
+            here.bind(('127.0.0.1', 0))
+            there.bind(('127.0.0.1', 0))
+            ports = 'src port %d and dst port %d' % (here.getsockname()[1], there.getsockname()[1])
+            p = subprocess.Popen([tcpdump, '-i', 'lo', '-Z', 'root', '-s', str(snap), '-w', path,
+                                  '-c', str(len(sizes)), '--immediate-mode', 'udp and ' + ports],
+                                 stderr=subprocess.PIPE, text=True)
+            try:
+                if not any('listening on' in line for line in p.stderr):
+                    raise Missing('leave to capture')
+                for size in sizes:
+                    here.sendto(bytes(size), there.getsockname())
+                p.wait(timeout=60)
+            finally:
+                p.kill()
+                p.communicate()
+
+    def missing(self):
+        """The first bytes of packets as if there were no more, and what tcpdump misses."""
+        tcpdump = tool('tcpdump')
+        packets = some_packets(self.rng, 600)
+        path = self.path('missing.pcap')
+        for snap in SNAPS[1:]:
+            left = [packet[:snap] for packet in packets]
+            self.write(path, left)
+            out = run([tcpdump, '-nn', '-v', '-t', '-#', '-r', path]).decode(errors='replace')
+            self.bench(self.held(path), 'packets of %d bytes at most' % snap)
+            self.answers(left, self.tcpdump_answers(left, out), 'tcpdump, %d bytes at most' % snap)
+
+    def tcpdump_answers(self, packets, out):
+        """14 where tcpdump misses as many bytes as the total length asks for, 0 where it misses
+        none; None where the header is not readable, on which it has other words."""
+        heads = {int(n): rest for n, rest in re.findall(r'^ *(\d+)  (IP.*)$', out, re.M)}
+        answers = []
+        for place, packet in enumerate(packets, 1):
+            if header_fault(packet):
+                answers.append(None)
+                continue
+            misses = re.match(r'IP truncated-ip - (\d+) bytes missing! ', heads[place])
+            wanted = packet[2] * 256 + packet[3] - len(packet)
+            answers.append(0 if not misses else 14 if int(misses[1]) == wanted else -1)
+        return answers
+
     def scapy(self):
-        """Packets and files made by scapy, in both orders, and its reading."""
+        """Packets and files made by scapy, in both orders, whole and cut, and its reading."""
         python = python_with_scapy()
-        for order in '<>':
+        for order, snap in [('<', 65535), ('>', 65535)] + list(zip('<><><', SNAPS)):
             path = self.path('scapy.pcap')
-            out = run([python, '-c', SCAPY, path, order, str(self.rng.getrandbits(32)), '600'])
+            out = run([python, '-c', SCAPY, path, order, str(self.rng.getrandbits(32)), '600',
+                       str(snap)])
             rows = [line.split() for line in out.decode().splitlines()]
             packets = [bytes.fromhex(row[0]) for row in rows]
-            self.examine(path, packets, 'a file by scapy, order %s' % order)
-            self.compare(packets, [tuple(map(int, row[1:])) for row in rows],
-                         'scapy, order %s' % order)
+            what = 'scapy, order %s, snapshot length %d' % (order, snap)
+            self.examine(path, packets, 'a file by ' + what)
+            if snap < 65535:
+                self.answers(packets, [int(row[1]) for row in rows], what)
+            else:
+                self.compare(packets, [tuple(map(int, row[2:])) for row in rows], what)
 
 
-# Runs under an interpreter that has scapy: makes packets, writes them, and
-# prints for each its bytes and the values as scapy reads them back.
+# Runs under an interpreter that has scapy: makes packets, writes them or their
+# first bytes, and prints for each its bytes, the answer by scapy's total length,
+# and the values as scapy reads them back.
 SCAPY = r'''
 import random, sys
 from scapy.all import (GRE, ICMP, IP, TCP, UDP, IPOption_NOP, IPOption_RR, Padding, Raw, raw)
 from scapy.utils import RawPcapWriter
-path, order, seed, count = sys.argv[1], sys.argv[2], int(sys.argv[3]), int(sys.argv[4])
+path, order = sys.argv[1:3]
+seed, count, snap = map(int, sys.argv[3:])
 rng = random.Random(seed)
 def some_address():
     return '.'.join(str(rng.choice((0, 1, 10, 192, 255, rng.randrange(256)))) for _ in range(4))
@@ -213,7 +337,7 @@ def port():
 def number(text):
     a, b, c, d = map(int, text.split('.'))
     return ((a * 256 + b) * 256 + c) * 256 + d
-writer = RawPcapWriter(path, linktype=101, endianness=order)
+writer = RawPcapWriter(path, linktype=101, endianness=order, snaplen=snap)
 writer.write_header(None)
 for _ in range(count):
     options = rng.choice(([], [], [IPOption_NOP()], [IPOption_NOP()] * 7,
@@ -226,13 +350,18 @@ for _ in range(count):
     if isinstance(packet.payload, Raw):
         packet.proto = rng.choice((0, 2, 50, 132, 255))
     packet = packet / Raw(bytes(rng.choice((0, 1, 30, 1400))))
-    data = raw(packet / Padding(bytes(rng.choice((0, 0, 6, 46)))))
-    writer.write_packet(data, sec=1, usec=2)
+    whole = raw(packet / Padding(bytes(rng.choice((0, 0, 6, 46)))))
+    data = whole[:snap]
+    writer.write_packet(data, sec=1, usec=2, caplen=len(data), wirelen=len(whole))
+    if len(data) < 20:
+        print(data.hex(), 7)
+        continue
     back = IP(data)
     ports = (0, 0, 1)
     if back.frag == 0 and isinstance(back.payload, (UDP, TCP)):
         ports = (back.payload.dport, back.payload.sport, 0)
-    print(data.hex(), number(back.dst), number(back.src), back.proto, *ports)
+    print(data.hex(), 14 if len(data) < back.len else 0, number(back.dst), number(back.src),
+          back.proto, *ports)
 writer.close()
 '''
 
@@ -246,7 +375,8 @@ def main():
     options.bench = options.bench and command_line(options.bench)
     with tempfile.TemporaryDirectory() as folder:
         captures = Captures(options, folder)
-        for part in (captures.text2pcap, captures.tcpdump, captures.scapy):
+        for part in (captures.text2pcap, captures.tcpdump, captures.editcap, captures.live,
+                     captures.missing, captures.scapy):
             try:
                 try:
                     part()

@@ -17,7 +17,7 @@ import os
 import re
 import sys
 
-from reference import Account, BAD_STORE, LEAST_CELLS, NOT_READABLE, read_header
+from reference import Account, BAD_STORE, LEAST_CELLS, read_header
 
 ROOT = os.path.join(os.path.dirname(os.path.abspath(__file__)), '..')
 PATH = os.path.join(ROOT, 'crates', 'cases', 'stdin')
@@ -207,12 +207,12 @@ class Cases:
         return account
 
     def packet(self, packet):
-        values = read_header(packet)
-        return self.lookup(*values) if values else (NOT_READABLE, 0, 0, 0)
+        answer, values = read_header(packet)
+        return (answer, 0, 0, 0) if answer else self.lookup(*values)
 
     def header(self, packet):
-        values = read_header(packet)
-        return (0,) + values if values else (NOT_READABLE,) + (0,) * 6
+        answer, values = read_header(packet)
+        return (answer,) + (values or (0,) * 6)
 
 
 def by_reference(text):

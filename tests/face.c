@@ -1,4 +1,4 @@
-/* What the header has beside the calls: the names of the fields, the texts of the answers, a rule that was read handed to a scan and to an insert, and a table listed and loaded again.
+/* What the header has beside the calls: the names of the fields, the texts of the answers, a rule that was read handed to a scan and to an insert, and a table listed and loaded again; and its examples of packets that are refused.
 
        face answers      a line for each answer, number and text
        face version      the version, and the same from its two numbers
@@ -109,11 +109,46 @@ static int rules(void) {
   return 0;
 }
 
+/* The header's examples of 7 and 14, and their order: 7, 14, 9, 13. */
+static int packets(void) {
+  static const uint8_t udp[28] = { 0x45,0,0,28, 0,0,0x40,0, 64,17,0,0, 192,168,1,9, 10,0,0,5, 0x9c,0x40,0x13,0x8c, 0,8,0,0 };
+  uint8_t other[28];
+  static reamstork_tallies full, before;
+
+  SURE(reamstork_start(one, len, 100) == REAMSTORK_DONE);
+  SURE(reamstork_lookup_packet(one, len, udp, 28).answer == REAMSTORK_DONE);
+  SURE(reamstork_lookup_packet(one, len, udp, 27).answer == REAMSTORK_CUT);
+  SURE(reamstork_lookup_packet(one, len, udp, 24).answer == REAMSTORK_CUT);
+  SURE(reamstork_lookup_packet(one, len, udp, 20).answer == REAMSTORK_CUT);
+  SURE(reamstork_lookup_packet(one, len, udp, 19).answer == REAMSTORK_UNREADABLE);
+  memcpy(other, udp, sizeof udp);
+  other[0] = 0x65;
+  SURE(reamstork_lookup_packet(one, len, other, 24).answer == REAMSTORK_UNREADABLE);
+  memcpy(other, udp, sizeof udp);
+  other[3] = 22;
+  SURE(reamstork_lookup_packet(one, len, other, 22).answer == REAMSTORK_UNREADABLE);
+  SURE(reamstork_lookup_packet(one, len - 1, udp, 19).answer == REAMSTORK_UNREADABLE);
+  SURE(reamstork_lookup_packet(one, len - 1, udp, 24).answer == REAMSTORK_CUT);
+  SURE(reamstork_lookup_packet(one, len - 1, udp, 28).answer == REAMSTORK_BAD_STORE);
+
+  /* a record of zeros has no unused slot, and none for the default */
+  SURE(reamstork_lookup_packet_tally(one, len, udp, 28, &full).answer == REAMSTORK_NO_PLACE);
+  reamstork_found f = reamstork_lookup_packet_tally(one, len, udp, 24, &full);
+  SURE(f.answer == REAMSTORK_CUT && f.rule == 0 && f.action == 0 && f.reads == 0);
+  SURE(reamstork_lookup_packet_tally(one, len - 1, udp, 24, &full).answer == REAMSTORK_CUT);
+  SURE(memcmp(&full, &before, sizeof full) == 0);
+  reamstork_tallies_clear(&full);
+  reamstork_tallies_clear(&before);
+  SURE(reamstork_lookup_packet_tally(one, len, udp, 24, &full).answer == REAMSTORK_CUT);
+  SURE(memcmp(&full, &before, sizeof full) == 0);
+  return 0;
+}
+
 int main(int argc, char **argv) {
   const char *what = argc > 1 ? argv[1] : "";
 
   if (strcmp(what, "answers") == 0) {
-    for (uint32_t n = 0; n <= 14; n++) printf("%u %s\n", (unsigned)n, reamstork_answer(n));
+    for (uint32_t n = 0; n <= 15; n++) printf("%u %s\n", (unsigned)n, reamstork_answer(n));
     printf("4294967295 %s\n", reamstork_answer(UINT32_MAX));
     return 0;
   }
@@ -121,5 +156,5 @@ int main(int argc, char **argv) {
     printf("%s\n%d.%d\n", REAMSTORK_VERSION, REAMSTORK_VERSION_MAJOR, REAMSTORK_VERSION_MINOR);
     return 0;
   }
-  return rules();
+  return rules() || packets();
 }

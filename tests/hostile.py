@@ -80,13 +80,14 @@ def question(talk, rng, store, lent, table):
         talk.rule_at(store, place)
     for _ in range(4):
         values = values_near(rng, table)
-        asked += [values, values]
+        asked += [(0, values)] * 2
         talk.lookup(store, values)
         talk.lookup(store, values)
     talk.lookup(store, values_above(rng, values), (11, 0, 0, 0))
     packet = random_packet(rng, table)
-    asked.append(read_header(packet))
-    talk.packet(store, packet)
+    for packet in (packet, packet[:rng.randint(0, len(packet))]):
+        asked.append(read_header(packet))
+        talk.packet(store, packet)
     return asked, lent
 
 
@@ -101,9 +102,9 @@ def judge(results, asked, lent):
         for read in reads:
             expect(read == (9,) + (0,) * 14, 'read or rule_at gave %s where the check gives 9' % (read,))
     most = len(TOPS) * max((len(lent) - 1024) // 8, 0)
-    for values, got in zip(asked, lookups):
-        if values is None:
-            expect(got == (7, 0, 0, 0), 'an unreadable packet gave %s' % (got,))
+    for (answer, values), got in zip(asked, lookups):
+        if answer:
+            expect(got == (answer, 0, 0, 0), 'a packet that gets %d gave %s' % (answer, got))
             continue
         expect(got == (9, 0, 0, 0) or got[0] == 0 and len(TOPS) <= got[3] <= most,
                'a lookup of %s gave %s' % (values, got))

@@ -129,6 +129,7 @@ def every_length(talk, rng):
         talk.lookup(store.id, values, (0, 7, 9, 6) if good else (9, 0, 0, 0))
         talk.lookup(store.id, (1, 2, 256, 4, 5, 0), (11, 0, 0, 0))
         talk.packet(store.id, readable, (0, 7, 9, 6) if good else (9, 0, 0, 0))
+        talk.packet(store.id, readable[:23], (14, 0, 0, 0))
         talk.packet(store.id, readable[:19], (7, 0, 0, 0))
         talk.delete(store.id, 65535, 1 if good else 9)
         talk.insert(store.id, Rule(7, 9, *FULL), 3 if good else 9)
@@ -142,6 +143,7 @@ def every_length(talk, rng):
         talk.cells(walled, (0, 6) if good else (9, 0))
         talk.lookup(walled, values, (0, 7, 9, 6) if good else (9, 0, 0, 0))
         talk.packet(walled, readable, (0, 7, 9, 6) if good else (9, 0, 0, 0))
+        talk.packet(walled, readable[:23], (14, 0, 0, 0))
         talk.packet(walled, readable[:19], (7, 0, 0, 0))
         talk.delete(walled, 8, 4 if good else 9)
         talk.start(walled, 5, 8)
@@ -248,16 +250,23 @@ def order_of_refusals(talk, rng):
 
 
 def seven_before_nine(talk, rng):
-    """Packets and values over words that are no store at all."""
+    """Packets and values over words that are no store at all: 7, then 14, then 9."""
     for length in (0, 1, 1071, 1072, 2000):
         for words in (0, 1, 2 ** 32 - 1):
             store = talk.make(length, drive.END_AT_WALL)
             talk.set(store, 0, [words] * length)
             talk.packet(store, b'', (7, 0, 0, 0))
-            talk.packet(store, packet_of((1, 2, 6, 3, 4))[:23], (7, 0, 0, 0))
+            talk.packet(store, packet_of((1, 2, 6, 3, 4))[:19], (7, 0, 0, 0))
+            talk.packet(store, packet_of((1, 2, 6, 3, 4))[:20], (14, 0, 0, 0))
+            talk.packet(store, packet_of((1, 2, 6, 3, 4))[:23], (14, 0, 0, 0))
             talk.packet(store, packet_of((1, 2, 6, 3, 4)), (9, 0, 0, 0))
-            talk.packet(store, packet_of((1, 2, 1, 3, 4))[:20], (7, 0, 0, 0))
+            # both 7 and 14 stand in the way: version, header length, no room for ports
+            talk.packet(store, packet_of((1, 2, 6, 3, 4), first=0x65)[:23], (7, 0, 0, 0))
+            talk.packet(store, packet_of((1, 2, 6, 3, 4), first=0x44)[:23], (7, 0, 0, 0))
+            talk.packet(store, packet_of((1, 2, 6, 3, 4), total=23)[:22], (7, 0, 0, 0))
+            talk.packet(store, packet_of((1, 2, 1, 3, 4))[:20], (14, 0, 0, 0))
             talk.packet(store, packet_of((1, 2, 1, 3, 4), total=20)[:20], (9, 0, 0, 0))
+            talk.packet(store, packet_of((1, 2, 1, 3, 4), total=20)[:19], (7, 0, 0, 0))
             talk.lookup(store, (1, 2, 256, 3, 4, 0), (11, 0, 0, 0))
             talk.lookup(store, (1, 2, 255, 65536, 4, 0), (11, 0, 0, 0))
             talk.lookup(store, (1, 2, 255, 3, 65536, 1), (11, 0, 0, 0))

@@ -154,7 +154,7 @@ def see_walk(call, values, touched, result):
 def see_lookup(call, touched, values, result, *lent):
     expect(not touched.stored(STORE, call.len), 'it writes words of the store')
     touched.only((STORE, 4 * size_of(call)), *lent)
-    if result[0] in (7, 11):
+    if result[0] in (7, 11, 14):
         expect(not touched.loaded(STORE, call.len), 'refused, it reads words of the store')
     else:
         see_walk(call, values, touched, result)
@@ -162,19 +162,21 @@ def see_lookup(call, touched, values, result, *lent):
 
 def see_packet(call, touched, result, *lent):
     packet = call.packet
-    values = read_header(packet)
+    answer, values = read_header(packet)
     loaded = set(touched.loaded(PACKET, len(packet), 1))
-    ports = {4 * (packet[0] & 15) + i for i in range(4)} if packet else set()
+    ports = set() if answer else {4 * (packet[0] & 15) + i for i in range(4)}
     expect(loaded <= HEADER_BYTES | ports, 'it loads other bytes of the packet: %s',
            differences(loaded, HEADER_BYTES | ports))
     expect(not touched.stored(PACKET, len(packet), 1), 'it writes the packet')
+    expect(result[0] == answer or not answer and result[0] not in (7, 14),
+           'it answers %d where the packet asks for %d', result[0], answer)
     see_lookup(call, touched, values, result, (PACKET, len(packet)), *lent)
 
 
 def see_tally(call, touched, result):
     """The keys are gone over once, up to the one that is held; one place is written."""
     keys = call.tallies[:PLACES]
-    values = read_header(call.packet)
+    values = read_header(call.packet)[1]
     row = None if values is None else walk(call, values)[1]
     loads = stores = Counter()
     if row is not None:

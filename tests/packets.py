@@ -30,8 +30,8 @@ def bench_values(row):
 # ---- fixed cases ----
 
 def header_grid(talk, rng):
-    """Each of the six conditions just holding and just not, with options and
-    fragments."""
+    """Each condition of 7, and that of 14, just holding and just not, with
+    options and fragments."""
     here = (address('10.11.12.13'), address('192.168.1.9'), 17, 0x1389, 0x9C41, 0)
     for protocol in (0, 1, 5, 6, 7, 16, 17, 18, 255):
         store = fresh(talk, rng, 1000)
@@ -58,7 +58,7 @@ def header_grid(talk, rng):
         for size in range(len(packet) + 1):
             store.packet(packet[:size])
         long = packet_of(with_ports, total=65535, behind=bytes(65535))
-        for size in (65534, 65535, 65536):
+        for size in (19, 20, 23, 24, 255, 256, 1500, 32767, 32768, 65534, 65535, 65536):
             store.packet(long[:size])
         talk.flush()
 
@@ -80,11 +80,22 @@ end 3 0
 '''
 
 
-def capture_of(packets, order='big', version=(2, 4), link=101, magic=0xA1B2C3D4):
+# The same packets, each cut to 24 bytes.
+CUT_OUTPUT = '''packet answer rule action reads
+1 14 0 0 0
+2 7 0 0 0
+3 14 0 0 0
+end 3 0
+'''
+
+
+def capture_of(packets, order='big', version=(2, 4), link=101, magic=0xA1B2C3D4, snap=65535):
+    """A capture of the packets; of a packet longer than `snap` it has the first bytes."""
     head = b''.join(n.to_bytes(size, order) for n, size in (
-        (magic, 4), (version[0], 2), (version[1], 2), (0, 4), (0, 4), (65535, 4), (link, 4)))
+        (magic, 4), (version[0], 2), (version[1], 2), (0, 4), (0, 4), (snap, 4), (link, 4)))
     return head + b''.join(
-        b''.join(n.to_bytes(4, order) for n in (1, 2, len(p), len(p))) + p for p in packets)
+        b''.join(n.to_bytes(4, order) for n in (1, 2, min(len(p), snap), len(p))) + p[:snap]
+        for p in packets)
 
 
 def example_packets():
@@ -104,6 +115,10 @@ def captures(talk, rng):
         expect(bench_output(whole[:24]).endswith('\nend 0 0\n'), 'an empty capture')
         expect(capture_records(whole[:-1]) == (packets[:2], 1), 'a record cut short')
         expect(capture_records(whole[:24 + 15]) == ([], 1), 'a record header cut short')
+        cut = capture_of(packets, order, snap=24)
+        expect(capture_records(cut) == ([packet[:24] for packet in packets], 0),
+               'a capture with a snapshot length')
+        expect(bench_output(cut) == CUT_OUTPUT, 'the numbers of request P5')
         for size, ending in ((16384, 1), (16385, 2), (2 ** 32 - 1, 2)):
             cut = whole + b''.join(n.to_bytes(4, order) for n in (0, 0, size, 0))
             expect(capture_records(cut) == (packets, ending), 'a long record')
@@ -147,7 +162,8 @@ def random_capture(rng):
     if rng.random() < 0.2:
         long = bytes(rng.choice((16383, 16384, 16385, 20000)))
         packets.insert(rng.randint(0, len(packets)), long)
-    capture = bytearray(capture_of(packets, order))
+    snap = rng.choice((65535, 65535, 65535, 19, 20, 24, 27, 40, rng.randrange(100)))
+    capture = bytearray(capture_of(packets, order, snap=snap))
     kind = rng.randrange(8)
     if kind == 0:
         capture[rng.randrange(24)] ^= 1 << rng.randrange(8)
@@ -169,8 +185,10 @@ class BenchProgram:
         self.command, self.patience = command, patience
 
     def __call__(self, talk, rng):
-        for capture in [capture_of(example_packets(), rng.choice(('big', 'little')))] + [
-                random_capture(rng) for _ in range(4)]:
+        order = rng.choice(('big', 'little'))
+        for capture in [capture_of(example_packets(), order),
+                        capture_of(example_packets(), order, snap=24)] + [
+                            random_capture(rng) for _ in range(4)]:
             try:
                 done = subprocess.run(self.command, input=capture, capture_output=True,
                                       timeout=self.patience)

@@ -6,7 +6,7 @@ from reference import (DEFAULT, PORTLESS, PORTS, Rule, default_rule, range_fault
                        read_header, scan, winner_and_reads, words_needed)
 from store import HOWS, Store, expect, fresh
 from tables import CHOICES, World, packet_of, random_packet, values_near
-from walk import walk
+from walk import walk, walk_packet
 
 WORD = 2 ** 32 - 1
 ANY_PORT = (0, 65535)
@@ -74,7 +74,7 @@ def request_example(talk, rng):
 
     def ask(store, rules, wanted):
         for packet, want in zip((tftp, later, icmp, zero, high), wanted):
-            values = read_header(packet)
+            values = read_header(packet)[1]
             expect(store.account.lookup(values)[:3] == want, 'the reference and request P4')
             store.packet(packet)
             store.lookup(values)
@@ -190,8 +190,7 @@ def port_rule_damage(talk, rng):
                 talk.lookup(store, values, (0, found.number, found.action, reads))
                 talk.records(rules[1:], rules[0].action, values, (0, found.number, found.action))
                 packet = random_packet(rng, rules)
-                values = read_header(packet)
-                talk.packet(store, packet, walk(words, values) if values else (7, 0, 0, 0))
+                talk.packet(store, packet, walk_packet(words, packet))
             if check:
                 talk.note('stores that break the port rule alone')
                 talk.insert(store, world.rule(), 9)
@@ -260,7 +259,7 @@ def port_tables(talk, rng):
     for _ in range(40):
         packet = random_packet(rng, table)
         store.packet(packet)
-        for values in (values_near(rng, table), read_header(packet)):
+        for values in (values_near(rng, table), read_header(packet)[1]):
             if values:
                 for portless in (values[PORTLESS], 1 - values[PORTLESS]):
                     asked = values[:5] + (portless,)

@@ -17,7 +17,7 @@ LEAST_CELLS, MOST_CELLS = 6, 65536
 DONE = 0
 NUMBER_TOO_HIGH, BAD_RANGE, ALREADY_THERE, NOT_THERE, TABLE_FULL, NO_ROOM = 1, 2, 3, 4, 5, 6
 NOT_READABLE, BAD_START, BAD_STORE, BAD_PREFIX, ABOVE_TOP = 7, 8, 9, 10, 11
-NO_PLACE = 13
+NO_PLACE, CUT_SHORT = 13, 14
 
 Rule = namedtuple('Rule', 'number action low high')
 
@@ -165,9 +165,9 @@ class Account:
         return (DONE, rule.number, rule.action, reads)
 
     def lookup_packet(self, packet):
-        values = read_header(packet)
-        if values is None:
-            return (NOT_READABLE, 0, 0, 0)
+        answer, values = read_header(packet)
+        if answer:
+            return (answer, 0, 0, 0)
         return self.lookup(values)
 
 
@@ -231,26 +231,39 @@ def scan(records, action, values):
 
 # ---- headers, prefixes, captures ----------------------------------------
 
-def read_header(packet):
-    """The six values of an IPv4 packet in the order of the fields, or None."""
+def header_fault(packet):
+    """What gets 7: one of five conditions. None of them asks how much of the
+    packet is there, but for its first 20 bytes."""
     if len(packet) < 20:
-        return None
+        return True
     version, header = packet[0] >> 4, 4 * (packet[0] & 15)
     total = int.from_bytes(packet[2:4], 'big')
-    offset = int.from_bytes(packet[6:8], 'big') & 0x1FFF
-    protocol = packet[9]
-    if version != 4 or header < 20 or total < header or len(packet) < total:
-        return None
+    if version != 4 or header < 20 or total < header:
+        return True
+    return has_ports(packet) and total - header < 4
+
+
+def has_ports(packet):
+    """Protocol 6 or 17, and fragment offset 0."""
+    return packet[9] in (6, 17) and int.from_bytes(packet[6:8], 'big') & 0x1FFF == 0
+
+
+def read_header(packet):
+    """(answer, values): 7 or 14 and None, or 0 and the six values of an IPv4
+    packet in the order of the fields."""
+    if header_fault(packet):
+        return NOT_READABLE, None
+    if len(packet) < int.from_bytes(packet[2:4], 'big'):
+        return CUT_SHORT, None
     source_port = destination_port = 0
     portless = 1
-    if protocol in (6, 17) and offset == 0:
-        if total - header < 4:
-            return None
+    if has_ports(packet):
+        header = 4 * (packet[0] & 15)
         source_port = int.from_bytes(packet[header:header + 2], 'big')
         destination_port = int.from_bytes(packet[header + 2:header + 4], 'big')
         portless = 0
-    return (int.from_bytes(packet[16:20], 'big'), int.from_bytes(packet[12:16], 'big'),
-            protocol, destination_port, source_port, portless)
+    return DONE, (int.from_bytes(packet[16:20], 'big'), int.from_bytes(packet[12:16], 'big'),
+                  packet[9], destination_port, source_port, portless)
 
 
 def prefix(address, length):

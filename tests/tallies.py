@@ -1,9 +1,9 @@
 """Cases about tallies: lookups that count for the rule that decides."""
 
-from reference import DEFAULT, NO_PLACE, TOPS, Rule, Tally, read_header, words_needed
+from reference import DEFAULT, NO_PLACE, TOPS, Rule, Tally, words_needed
 from store import HOWS, Store, expect, fresh
 from tables import World, packet_of, random_packet
-from walk import walk
+from walk import walk_packet
 
 FULL = ((0,) * 6, TOPS)
 CLEAR = (4294967295,) * 65 + (0,) * 130
@@ -75,12 +75,17 @@ def tally_edges(talk, rng):
     goes({**others, 64: (4294967295, 8, 8)}, {**others, 64: (DEFAULT, 1, 35)})
     goes({**others, 64: (DEFAULT, 8, 8)}, {**others, 64: (DEFAULT, 9, 43)})
     # the other refusals come first, and add nothing
-    goes(others, others, (7, 0, 0, 0), packet[:19])
-    goes({}, {}, (7, 0, 0, 0), packet[:34])
+    for before in (others, {}, {3: (DEFAULT, 1, 1)}):
+        goes(before, before, (7, 0, 0, 0), packet[:19])
+        goes(before, before, (7, 0, 0, 0), b'\x60' + packet[1:34])
+        goes(before, before, (14, 0, 0, 0), packet[:20])
+        goes(before, before, (14, 0, 0, 0), packet[:34])
     talk.flush()
     talk.lend(store.id, words_needed(40) - 1)
-    goes(others, others, (9, 0, 0, 0))
-    goes({}, {}, (9, 0, 0, 0))
+    for before in (others, {}, {3: (DEFAULT, 1, 1)}):
+        goes(before, before, (7, 0, 0, 0), packet[:19])
+        goes(before, before, (14, 0, 0, 0), packet[:34])
+        goes(before, before, (9, 0, 0, 0))
     talk.lend(store.id, words_needed(40))
     # a rule for each place, and the default last
     wide = Store(talk, words_needed(2000))
@@ -171,8 +176,7 @@ def hostile_tallies(talk, rng):
         record = some_record(rng, numbers + [changed[47 + 15 * p] for p in range(5)])
         for _ in range(12):
             packet = random_packet(rng, table)
-            values = read_header(packet)
-            found = (7, 0, 0, 0) if values is None else walk(changed, values)
+            found = walk_packet(changed, packet)
             record = ask(store, packet, record, found)
             if found[0] == 0 and found[1] > DEFAULT:
                 talk.note('numbers above 65,535 counted')

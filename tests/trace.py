@@ -14,7 +14,7 @@ records and lists. Of each call is seen (loads.py):
   often as they are loaded; a load of 8 bytes is one of two words. It writes none.
 - Over damaged words it loads the cells of the walk, which stops after c cells of one
   field, and of the front no other words than these.
-- A lookup that is refused with 7 or 11 touches no word of the store.
+- A lookup that is refused with 7, 11 or 14 touches no word of the store.
 - Of a packet it loads the bytes that TIMING names. Of a tally record it loads the keys
   once, up to the one that is held, and writes the one place that counts.
 - A scan loads words of every record of its list, no more than the list has, and touches
@@ -46,8 +46,8 @@ CALLS = {
     INSERT: ('insert', {0, 1, 2, 3, 5, 6, 9}), DELETE: ('delete', {0, 1, 4, 9}),
     CHECK: ('check', {0, 9}), READ: ('read', {0, 1, 4, 9}), RULE_AT: ('rule_at', {0, 4, 9}),
     CELLS: ('cells', {0, 9}),
-    LOOKUP: ('lookup', {0, 9, 11}), LOOKUP_PACKET: ('lookup_packet', {0, 7, 9}),
-    LOOKUP_TALLY: ('lookup_packet_tally', {0, 7, 9, 13}), SCAN: ('scan', {0, 11}),
+    LOOKUP: ('lookup', {0, 9, 11}), LOOKUP_PACKET: ('lookup_packet', {0, 7, 9, 14}),
+    LOOKUP_TALLY: ('lookup_packet_tally', {0, 7, 9, 13, 14}), SCAN: ('scan', {0, 11}),
     PREFIX: ('prefix', {0, 10}), CLEAR: ('tallies_clear', set()),
     DIFFERENCE: ('tally_difference', set())}
 BEHIND = 0xA5A5A5A5
@@ -122,6 +122,10 @@ def lookups(script, rng, rules, count):
         script.packet(packet_of(values))
         script.packet(random_packet(rng, rules))
         script.packet(random_packet(rng, rules), some_record(rng, rules))
+    # cut short: to the first 20 bytes, and anywhere behind them
+    script.packet(packet_of(values)[:20])
+    script.packet(packet_of(values, behind=bytes(20))[:rng.randint(20, 43)])
+    script.packet(packet_of(values)[:rng.randint(20, 23)], some_record(rng, rules))
     script.call(LOOKUP, *values_above(rng, values))
 
 

@@ -6,6 +6,8 @@ this page is written from the manual, and laid.py from STORE.md; reference.py
 knows no layout.
 """
 
+from reference import read_header
+
 REFUSED = (9, 0, 0, 0)
 
 
@@ -32,3 +34,9 @@ def walk(words, values):
     if rest or place > words[1] or place > 64:
         return REFUSED
     return (0, words[47 + 15 * place], words[48 + 15 * place], reads)
+
+
+def walk_packet(words, packet):
+    """The same for a packet, whose own refusals come first."""
+    answer, values = read_header(packet)
+    return (answer, 0, 0, 0) if answer else walk(words, values)

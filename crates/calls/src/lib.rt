@@ -180,7 +180,7 @@ fn found(f: Found) -> [u32; 16] {
 // What reading a packet's header answers: the answer, and the values.
 fn values(h: Header) -> [u32; 16] {
     let Header::Values(p) = h else {
-        return first(7);
+        return first(header::answer(h));
     };
     [
         0,

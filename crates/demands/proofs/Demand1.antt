@@ -18,9 +18,10 @@ use Rattle.model.proofs.Tests.{by-test, never, and-left, and-right}
 use Rattle.model.proofs.UpTo.{length-upTo}
 use Rattle.model.proofs.Limits.{standing, not-standing}
 use Rattle.header.specs.declared.Packet.{Packet}
-use Rattle.header.specs.declared.Header.the-variants.{Values}
-use Rattle.header.specs.Header.{headerOf}
-use Rattle.header.specs.Facts.{Faulty, unreadable-when, within-tops}
+use Rattle.header.specs.declared.Header.{Header}
+use Rattle.header.specs.declared.Header.the-variants.{Values, Unreadable, Cut}
+use Rattle.header.specs.Header.{totalLength, headerOf, answerOf}
+use Rattle.header.specs.Facts.{Faulty, answer-7-when, answer-14-when, within-tops}
 use Rattle.layout.specs.Store.{size, cellsIn, tableOf, roomFor, passes, unless, checked, startAnswer, insertSays, deleteSays, readSays, readGives, placeSays, placeGives, zeroRule, cellsSays, cellsGives}
 use Rattle.lookup.specs.declared.Found.{Found}
 use Rattle.lookup.specs.Walk.{refused, lookupIn, lookupValues, lookupPacket}
@@ -32,7 +33,7 @@ use Rattle.demands.proofs.Fields.{says-no, ports-say, wrong-from, right
 use Rattle.demands.proofs.Held.{Leaves, refused-keeps, start-leaves, insert-leaves, delete-leaves}
 use Rattle.demands.proofs.Room.{no-room, room-there}
 use Rattle.demands.proofs.Lost.{nine-or-done, undecided-9}
-use Rattle.demands.proofs.Packets.{tops-right, unreadable-7, readable-is, by-header}
+use Rattle.demands.proofs.Packets.{tops-right, refused-by, readable-is, by-header}
 use Rattle.demands.proofs.Tally.{tally-before, tally-13, tally-zeros, tally-kept}
 
 -- one line of the table, decided by a test; and by a test that says yes where the call goes on
@@ -165,28 +166,38 @@ module _ (ws : List ℕ) where
   lookup-reads p = by-answer ipv4 ipv4-shaped ws (valuesIn p) refl (λ f. f .reads ≤ fieldCount ipv4 * cellsIn ws) (λ a. omega arith) (λ f e r. r)
 
   module _ (bytes : List ℕ) where
-    -- what is said of a refusal with 7, and of the lookup of each record, is said of the lookup by a packet
-    by-packet : (X : Found → Type 0) → X (refused 7) → ((p : Packet) → X (lookup ws p)) → X (lookupPacket ws bytes)
-    by-packet X u v = by-header (X (lookupPacket ws bytes)) bytes (λ e. rw (unreadable-7 ws bytes e) u) (λ p e. rw (readable-is ws bytes p e) (v p))
+    -- what is said of every refusal, and of the lookup of each record, is said of the lookup by a packet
+    by-packet : (X : Found → Type 0) → ((a : ℕ) → X (refused a)) → ((p : Packet) → X (lookup ws p)) → X (lookupPacket ws bytes)
+    by-packet X u v = by-header (X (lookupPacket ws bytes)) bytes (λ h e n. rw (refused-by ws bytes h e n) (u (answerOf h))) (λ p e. rw (readable-is ws bytes p e) (v p))
 
     packet-zeros : lookupPacket ws bytes .answer ≢ 0 → OnlyAnswer (lookupPacket ws bytes)
-    packet-zeros = by-packet (λ f. f .answer ≢ 0 → OnlyAnswer f) (λ n. refused-zeros 7) lookup-zeros
+    packet-zeros = by-packet (λ f. f .answer ≢ 0 → OnlyAnswer f) (λ a n. refused-zeros a) lookup-zeros
 
     packet-reads : lookupPacket ws bytes .reads ≤ fieldCount ipv4 * cellsIn ws
-    packet-reads = by-packet (λ f. f .reads ≤ fieldCount ipv4 * cellsIn ws) (omega arith) lookup-reads
+    packet-reads = by-packet (λ f. f .reads ≤ fieldCount ipv4 * cellsIn ws) (λ a. omega arith) lookup-reads
 
     -- 9, by the values that the header gives
     abbrev Nine : ℕ → Type 0
-    Nine answer = (p : Packet) → headerOf bytes ≡ Values p → Refuses 9 (Undecided ipv4 ws (valuesIn p)) done answer
+    Nine answer = (p : Packet) × (headerOf bytes ≡ Values p) × Refuses 9 (Undecided ipv4 ws (valuesIn p)) done answer
 
     readable-nine : Bytes bytes → (p : Packet) → headerOf bytes ≡ Values p → Refuses 9 (Undecided ipv4 ws (valuesIn p)) done (lookupPacket ws bytes .answer)
     readable-nine b p e = rw (readable-is ws bytes p e ∙ right-in ipv4 ws (valuesIn p) (tops-right p (within-tops bytes p b e))) (nine-line ipv4 ipv4-shaped ws (valuesIn p) refl)
 
-    packet-lines : Bytes bytes → Refuses 7 (Faulty bytes) Nine (lookupPacket ws bytes .answer)
-    packet-lines b =
-        by-header (Refuses 7 (Faulty bytes) Nine (lookupPacket ws bytes .answer)) bytes
-        (λ e. refuses (unreadable-when bytes .0 e) (ap answerIn (unreadable-7 ws bytes e)))
-        (λ p e. goes-on (λ r. let z = unreadable-when bytes .1 r in let y : _≡_ {A = ℕ} 0 1 = cc in omega arith) (readable-nine b))
+    -- what the header's case has for its number, the lookup answers
+    by-case : (h : Header) → headerOf bytes ≡ h → answerOf h ≢ 0 → lookupPacket ws bytes .answer ≡ answerOf h
+    by-case h e n = ap answerIn (refused-by ws bytes h e n)
+
+    packet-lines : Bytes bytes → Refuses 7 (Faulty bytes) (Refuses 14 (length bytes < totalLength bytes) Nine) (lookupPacket ws bytes .answer)
+    packet-lines b = go (headerOf bytes) refl
+      where
+        go : (h : Header) → headerOf bytes ≡ h → Refuses 7 (Faulty bytes) (Refuses 14 (length bytes < totalLength bytes) Nine) (lookupPacket ws bytes .answer)
+        go Unreadable e = refuses (answer-7-when bytes .0 (ap answerOf e)) (by-case Unreadable e (λ z. omega (arith, z)))
+        go Cut e =
+            let q = answer-14-when bytes .0 (ap answerOf e) in
+            goes-on (q .0) (refuses (q .1) (by-case Cut e (λ z. omega (arith, z))))
+        go (Values p) e =
+            let fine : Faulty bytes → ⊥ = λ r. omega (arith, answer-7-when bytes .1 r, ap answerOf e) in
+            goes-on fine (goes-on (λ l. omega (arith, answer-14-when bytes .1 (fine, l), ap answerOf e)) (p, e, readable-nine b p e))
 
 pub demand1 : Demand1
 demand1 =

@@ -24,7 +24,7 @@ use Rattle.demands.specs.Calls.{Passes, rulesIn, everyIn, fieldCount, va
 use Rattle.demands.specs.Demand3.{Edit, inserts, deletes, wordsAfter, run, History, wordsLeft, SameRules, Twins, Reads, Demand3}
 use Rattle.demands.proofs.Held.{Leaves, right, begins-with, refused-keeps, start-leaves, insert-leaves, delete-leaves}
 use Rattle.lookup.proofs.Steps.{wrong-11}
-use Rattle.demands.proofs.Packets.{tops-right, unreadable-7, readable-is, by-header}
+use Rattle.demands.proofs.Packets.{tops-right, refused-by, readable-is, by-header}
 use Rattle.demands.proofs.Decided.{foundOf, lookup-is}
 use Rattle.demands.proofs.Counted.{counts, counts-each}
 use Rattle.demands.proofs.Tally.{tally-done, same-answer, same-left}
@@ -110,7 +110,7 @@ module _ (k : Kind) (s : Shaped k) where
 module _ (ws vs : List ℕ) (g : Passes ipv4 ws) (h : Passes ipv4 vs) (e : tableOf ipv4 ws ≡ tableOf ipv4 vs) where
   same-packet : (bytes : List ℕ) → lookupPacket ws bytes ≡ lookupPacket vs bytes
   same-packet bytes = by-header (lookupPacket ws bytes ≡ lookupPacket vs bytes) bytes
-      (λ u. unreadable-7 ws bytes u ∙ sym (unreadable-7 vs bytes u))
+      (λ a u n. refused-by ws bytes a u n ∙ sym (refused-by vs bytes a u n))
       (λ p u. readable-is ws bytes p u ∙ same-lookup ipv4 ipv4-shaped ws vs g h e (valuesIn p) ∙ sym (readable-is vs bytes p u))
 
   twins : Twins ws vs
@@ -136,7 +136,7 @@ record-each ws h p t = most-each ipv4 ipv4-shaped ws h (valuesIn p) (tops-right 
 
 packet-tight : (ws : List ℕ) → Passes ipv4 ws → (bytes : List ℕ) → Bytes bytes → lookupPacket ws bytes .reads ≤ (fieldCount ipv4 + 1) * length (rulesIn ipv4 ws) + fieldCount ipv4
 packet-tight ws h bytes b = by-header _ bytes
-    (λ u. rw (unreadable-7 ws bytes u) (omega arith))
+    (λ a u n. rw (refused-by ws bytes a u n) (omega arith))
     (λ p e. rw (readable-is ws bytes p e) (tight ipv4 ipv4-shaped ws h (valuesIn p) (tops-right p (within-tops bytes p b e))))
 
 pub demand3 : Demand3

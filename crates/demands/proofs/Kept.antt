@@ -26,7 +26,7 @@ use Rattle.demands.specs.Calls.{Passes, rulesIn, everyIn, valuesIn}
 use Rattle.demands.specs.Tally.{keyAt, HoldsAt, NoPlace, WellKept, Dropped}
 use Rattle.demands.proofs.Held.{right, insert-leaves, delete-leaves}
 use Rattle.lookup.proofs.Steps.{wrong-11}
-use Rattle.demands.proofs.Packets.{unreadable-7, readable-is, by-header}
+use Rattle.demands.proofs.Packets.{refused-by, readable-is, by-header}
 use Rattle.demands.proofs.Decided.{lookup-is}
 use Rattle.demands.proofs.Tally.{by-look}
 use Rattle.demands.proofs.Readings.{set-long, set-here, set-other}
@@ -129,7 +129,7 @@ module _ (k : Kind) (s : Shaped k) where
 -- THE LIBRARY'S LOOKUPS
 packet-named : (ws : List ℕ) → Passes ipv4 ws → (bytes : List ℕ) → lookupPacket ws bytes .answer ≡ 0 → In (lookupPacket ws bytes .rule) (map numberOf (everyIn ipv4 ws))
 packet-named ws h bytes = by-header (lookupPacket ws bytes .answer ≡ 0 → In (lookupPacket ws bytes .rule) (map numberOf (everyIn ipv4 ws))) bytes
-    (λ u e. absurd (omega (arith, ap (λ (f : Found). f .answer) (unreadable-7 ws bytes u))))
+    (λ g u n e. absurd (n (sym (ap (λ (f : Found). f .answer) (refused-by ws bytes g u n)) ∙ e)))
     (λ p u. rw (readable-is ws bytes p u) (named-in ipv4 ipv4-shaped ws h (valuesIn p)))
 
 pub never-13 : (ws : List ℕ) → Passes ipv4 ws → (t : Tallies) → ipv4 .most < length (t .key) → WellKept ipv4 ws t → (bytes : List ℕ) → tallyAnswer ws bytes t ≡ lookupPacket ws bytes

@@ -12,7 +12,7 @@ use Rattle.model.specs.Table.{Kind, Rule, withRule, cellsOf}
 use Rattle.model.specs.Ipv4.{ipv4}
 use Rattle.header.specs.declared.Packet.{Packet}
 use Rattle.header.specs.declared.Header.the-variants.{Values}
-use Rattle.header.specs.Header.{headerOf}
+use Rattle.header.specs.Header.{totalLength, headerOf}
 use Rattle.header.specs.Facts.{Faulty}
 use Rattle.ipv4.specs.declared.Rule.{Rule as Given}
 use Rattle.ipv4.specs.Rule.{given}
@@ -92,9 +92,12 @@ pub record Demand1 : Type 0 where
   -- LOOKUP BY VALUES: "7 or 11, then 9"; over words that pass it is never 9 (Demand 2)
   pub lookup-answer : (ws : List ℕ) (p : Packet) → Refuses 11 (AboveTop ipv4 (valuesIn p)) (Refuses 9 (Undecided ipv4 ws (valuesIn p)) done) (lookup ws p .answer)
   pub lookup-zeros : (ws : List ℕ) (p : Packet) → lookup ws p .answer ≢ 0 → OnlyAnswer (lookup ws p)
-  -- LOOKUP BY A PACKET: 7 exactly when one of document 01's six conditions holds, and then 9 by the values that the header gives
+  -- LOOKUP BY A PACKET: 7 exactly when one of five of document 01's six conditions holds; then 14, "behind 7 and before 9", exactly when the sixth does, that the slice is shorter than the total length; otherwise the header gives values, and 9 is by these
   pub packet-answer : (ws bytes : List ℕ) → Bytes bytes
-      → Refuses 7 (Faulty bytes) (λ answer. (p : Packet) → headerOf bytes ≡ Values p → Refuses 9 (Undecided ipv4 ws (valuesIn p)) done answer) (lookupPacket ws bytes .answer)
+      → Refuses 7 (Faulty bytes)
+      (Refuses 14 (length bytes < totalLength bytes)
+      (λ answer. (p : Packet) × (headerOf bytes ≡ Values p) × Refuses 9 (Undecided ipv4 ws (valuesIn p)) done answer))
+      (lookupPacket ws bytes .answer)
   pub packet-zeros : (ws bytes : List ℕ) → lookupPacket ws bytes .answer ≢ 0 → OnlyAnswer (lookupPacket ws bytes)
   -- "after c cells of one field", over any words: no lookup reads more than c cells for each field in all
   pub lookup-reads : (ws : List ℕ) (p : Packet) → lookup ws p .reads ≤ fieldCount ipv4 * cellsIn ws

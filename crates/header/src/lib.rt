@@ -1,6 +1,7 @@
 // The packet reader: the bytes of a packet, from its IPv4 header on, to the six values that rules
 // speak of. What is right stands in specs/Header.antt, and every slice has an answer.
 ghost use mathlib.Core.Path.{_≡_};
+ghost use mathlib.Core.Bool.{cond};
 ghost use Prim.Native.Nat.{_+_, _<_, _≤_};
 ghost use lib.ListN.{length};
 ghost use Rattle.header.specs.Header.{
@@ -8,6 +9,7 @@ ghost use Rattle.header.specs.Header.{
   totalLength,
   hasPorts,
   headerOf,
+  answerOf,
 };
 use octets::Order;
 
@@ -21,13 +23,14 @@ pub struct Packet {
     pub portless: u32,
 }
 
-// What a slice of bytes is: a packet with these values, or nothing that can be read.
+// What a slice of bytes is: a packet with these values, nothing that can be read, or the beginning of a packet whose header is sound.
 pub enum Header {
     Values(Packet),
     Unreadable,
+    Cut,
 }
 
-// The values of the packet that s begins with. The tests stand in document 01's order, and each byte is read where the tests before it have shown that it is there.
+// The values of the packet that s begins with. Each byte is read where the tests before it have shown that it is there. The test for a packet cut short comes last: it is the answer only where nothing else stands in the way.
 pub fn read_header(s: &[u8]) -> Header
     ensures { λ r. ⌜ r ≡ headerOf (now (s .entry)) ⌝ }
 {
@@ -42,16 +45,14 @@ pub fn read_header(s: &[u8]) -> Header
     }
     let behind = header_length(s);
     let total = total_length(s);
-    if total < behind {
+    let ported = has_ports(s);
+    if total < behind + ports_length(ported) {
         return Header::Unreadable;
     }
     if s.len() < total {
-        return Header::Unreadable;
+        return Header::Cut;
     }
-    if has_ports(s) {
-        if total < behind + 4 {
-            return Header::Unreadable;
-        }
+    if ported {
         return Header::Values(Packet {
             destination: octets::word_at(Order::Big, s, 16),
             source: octets::word_at(Order::Big, s, 12),
@@ -69,6 +70,24 @@ pub fn read_header(s: &[u8]) -> Header
         source_port: 0,
         portless: 1,
     })
+}
+
+// The number of each case: 0 where there are values, 7 and 14 where there are none.
+pub fn answer(h: Header) -> u32
+    ensures { λ r. ⌜ r ≡ answerOf h ⌝ }
+{
+    match h {
+        Header::Values(_) => 0,
+        Header::Unreadable => 7,
+        Header::Cut => 14,
+    }
+}
+
+// How many bytes have to stand behind the header: those of the two ports, where the packet carries them.
+fn ports_length(ported: bool) -> usize
+    ensures { λ r. ⌜ (r ≡ cond ported 4 0) × (r ≤ 4) ⌝ }
+{
+    if ported { 4 } else { 0 }
 }
 
 // Whether the packet carries ports: it is TCP or UDP, and whole or the first of its fragments. The

@@ -2,6 +2,7 @@
 -- Assumes nothing.
 use mathlib.Core.Path.{_≡_, refl, sym, ap, _∙_}
 use mathlib.Core.Bool.{Bool, true, false, cond, not}
+use mathlib.Core.Logic.{_≢_}
 use mathlib.Core.List.{List}
 use Prim.Native.Nat.{ℕ, zero, suc, _+_, _-_, _*_, _≤_, _<_}
 use native.Mathlib.Omega.{arith}
@@ -14,8 +15,9 @@ use borrow.Author.Tests.{lt-ltb, le-ltb, le-leb, lt-leb, leb-true, eq-eqb, ne-eq
 use Rattle.model.specs.Table.{Kind, Shaped, rowWords, packetRight}
 use Rattle.model.proofs.Tests.{by-test, and-left}
 use Rattle.header.specs.declared.Packet.{Packet}
-use Rattle.header.specs.declared.Header.the-variants.{Values, Unreadable}
-use Rattle.header.specs.Header.{headerOf}
+use Rattle.header.specs.declared.Header.{Header}
+use Rattle.header.specs.declared.Header.the-variants.{Values}
+use Rattle.header.specs.Header.{headerOf, answerOf}
 use Rattle.cells.specs.Text.{cellWord}
 use Rattle.lookup.specs.declared.Walked.{Walked}
 use Rattle.lookup.specs.declared.Walked.the-variants.{At, Lost}
@@ -141,9 +143,9 @@ module _ (k : Kind) (w vs : List ℕ) where
 
 -- a packet, by what its header is
 module _ (w packet : List ℕ) where
-  pub no-values : Unreadable ≡ headerOf packet → refused 7 ≡ lookupPacket w packet
+  pub no-values : (h : Header) → h ≡ headerOf packet → answerOf h ≢ 0 → refused (answerOf h) ≡ lookupPacket w packet
   unfolding lookupPacket
-  no-values e = ap (lookupHeader w) e
+  no-values h e n = sym (simp (ne-eqb (answerOf h) 0 n)) ∙ ap (lookupHeader w) e
 
   pub by-values : (p : Packet) → Values p ≡ headerOf packet → lookupHeader w (Values p) ≡ lookupPacket w packet
   unfolding lookupPacket

@@ -69,7 +69,7 @@ lookupIn k words vs = cond (enough k words) (foundIn k words (walkOf (partIn k w
 unfoldable pub lookupValues : Kind → List ℕ → List ℕ → Found
 lookupValues k words vs = cond (packetRight k vs) (lookupIn k words vs) (refused 11)
 
--- THE LOOKUP BY AN IPV4 PACKET, by the number and the values of its header: "Where the header gives no values, no lookup is begun and the answer is 7"; else the lookup by the header's values
+-- THE LOOKUP BY AN IPV4 PACKET, by the number and the values of its header: "Where the header gives no values, no lookup is begun", and the answer is the number of its case, 7 or 14; else the lookup by the header's values
 abbrev pub lookupHeader : List ℕ → Header → Found
 lookupHeader words h = cond (eqb (answerOf h) 0) (lookupValues ipv4 words (valuesOf h)) (refused (answerOf h))
 

@@ -162,12 +162,13 @@ pub fn lookup(
     lookup_in(words, &values, &ipv4::TOPS, ipv4::shape())
 }
 
-// The lookup of an IPv4 packet, whose bytes begin at its header: 7 where that gives no values, and no lookup is begun.
+// The lookup of an IPv4 packet, whose bytes begin at its header: the number of the header's case where it gives no values, and no lookup is begun.
 pub fn lookup_packet(words: &[u32], packet: &[u8]) -> Found
     ensures { λ r. ⌜ r ≡ lookupPacket (now (words .entry)) (now (packet .entry)) ⌝ }
 {
-    let Header::Values(p) = header::read_header(packet) else {
-        return refuse(7);
+    let h = header::read_header(packet);
+    let Header::Values(p) = h else {
+        return refuse(header::answer(h));
     };
     lookup(
         words,

@@ -9,7 +9,7 @@ use borrow.Author.Tests.{eq-eqb, ne-eqb}
 use lib.ListN.{length}
 use Rattle.model.proofs.Tests.{never}
 use Rattle.header.specs.declared.Header.{Header}
-use Rattle.header.specs.declared.Header.the-variants.{Values, Unreadable}
+use Rattle.header.specs.declared.Header.the-variants.{Values, Unreadable, Cut}
 use Rattle.header.specs.Header.{headerOf, totalLength}
 use Rattle.header.specs.Facts.{values-are}
 use Rattle.lookup.specs.declared.Found.{Found}
@@ -34,7 +34,8 @@ module _ (words packet : List ℕ) (f : Found) (is : f ≡ lookupPacket words pa
     where
       by-header : (h : Header) → headerOf packet ≡ h → lookupHeader words h .answer ≡ 0 → 20 ≤ length packet
       by-header Unreadable q e = absurd (omega arith)
-      by-header (Values p) q e = values-are packet p q .0 .long
+      by-header Cut q e = absurd (omega arith)
+      by-header (Values p) q e = values-are packet p q .0 .sound .long
 
   module _ (t : Tallies) where
     -- it answers g and leaves u

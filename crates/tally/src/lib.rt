@@ -110,8 +110,9 @@ pub fn lookup_packet(
 ) -> Found
     ensures { λ r. ⌜ (r ≡ tallyAnswer (now (words .entry)) (now (packet .entry)) (tallies (now (key .entry)) (now (packets .entry)) (now (bytes .entry)))) × (tallies (now (key .exit)) (now (packets .exit)) (now (bytes .exit)) ≡ talliesLeft (now (words .entry)) (now (packet .entry)) (tallies (now (key .entry)) (now (packets .entry)) (now (bytes .entry)))) ⌝ }
 {
-    let Header::Values(p) = header::read_header(packet) else {
-        return lookup::refuse(7);
+    let h = header::read_header(packet);
+    let Header::Values(p) = h else {
+        return lookup::refuse(header::answer(h));
     };
     let found = lookup::lookup(
         words,

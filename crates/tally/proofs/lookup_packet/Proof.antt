@@ -3,7 +3,9 @@
 use mathlib.Core.Path.{sym, ap, _∙_}
 use native.Mathlib.Omega.{arith}
 use borrow.Author.Needs.{needs}
+use Rattle.header.proofs.Cases.{not-values}
 use Rattle.lookup.specs.declared.Found.{Found}
+use Rattle.lookup.specs.Walk.{refused}
 use Rattle.lookup.proofs.Steps.{no-values, by-values}
 use Rattle.tally.proofs.Steps.{long, refused-before, counts, no-place}
 use Rattle.tally.proofs.lookup_packet.Statement.{statement}
@@ -15,15 +17,19 @@ lookup-packet-spec =
     (tie.spec
     (λ c κs. search needs)
     (λ c. search needs)
-    (λ c. search needs)
+    (λ c κs. search needs)
     (λ c κs. search needs)
     -- the header gives no values
     (λ c.
-    refused-before _ _ _ (c .refuse .ensures ∙ no-values _ _ (sym (c .before .enum-told .given .1) ∙ c .before .before .before .read-header .ensures)) _ (λ z. omega (arith, z, ap (λ (g : Found). g .answer) (c .refuse .ensures))))
+    let m = c .before .before in
+    let h = m .before .read-header .result in
+    let n = not-values h (m .match .keys2) in
+    let is = c .refuse .ensures ∙ ap refused (c .before .answer .ensures) in
+    refused-before _ _ _ (is ∙ no-values _ _ h (m .before .read-header .ensures) n) _ (λ z. n (sym (ap (λ (g : Found). g .answer) is) ∙ z)))
     (λ c κs. search needs)
     -- the lookup of its values is refused
-    (λ c. let l = c .before .before in refused-before _ _ _ (l .lookup .ensures ∙ by-values _ _ _ (sym (l .before .before .p .given .1) ∙ l .before .before .before .before .read-header .ensures)) _ (c .if1 .taken))
-    (λ c κs. let l = c .before .before in long _ _ _ (l .lookup .ensures ∙ by-values _ _ _ (sym (l .before .before .p .given .1) ∙ l .before .before .before .before .read-header .ensures)) (c .if1 .left))
+    (λ c. let l = c .before .before in refused-before _ _ _ (l .lookup .ensures ∙ by-values _ _ _ (sym (l .before .before .h .given .1) ∙ l .before .before .before .before .read-header .ensures)) _ (c .if1 .taken))
+    (λ c κs. let l = c .before .before in long _ _ _ (l .lookup .ensures ∙ by-values _ _ _ (sym (l .before .before .h .given .1) ∙ l .before .before .before .before .read-header .ensures)) (c .if1 .left))
     (λ c κs. search needs)
     -- the rule's number has a place
     (λ c.
@@ -31,7 +37,7 @@ lookup-packet-spec =
     let measured = c .before .before .before .before .before in
     let looked = measured .before in
     let l = looked .before .before in
-    counts _ _ _ (l .lookup .ensures ∙ by-values _ _ _ (sym (l .before .before .p .given .1) ∙ l .before .before .before .before .read-header .ensures)) _ (looked .if1 .left) _ (measured .packet-length .ensures .0) _ (counted .1) (sym (counted .0) ∙ c .if2 .taken))
+    counts _ _ _ (l .lookup .ensures ∙ by-values _ _ _ (sym (l .before .before .h .given .1) ∙ l .before .before .before .before .read-header .ensures)) _ (looked .if1 .left) _ (measured .packet-length .ensures .0) _ (counted .1) (sym (counted .0) ∙ c .if2 .taken))
     (λ c κs. search needs)
     -- it has none
     (λ c.
@@ -40,4 +46,4 @@ lookup-packet-spec =
     let looked = measured .before in
     let l = looked .before .before in
     rw (c .refuse2 .ensures)
-    (no-place _ _ _ (l .lookup .ensures ∙ by-values _ _ _ (sym (l .before .before .p .given .1) ∙ l .before .before .before .before .read-header .ensures)) _ (looked .if1 .left) _ (measured .packet-length .ensures .0) _ (counted .1) (sym (counted .0) ∙ c .before .if2 .left))))
+    (no-place _ _ _ (l .lookup .ensures ∙ by-values _ _ _ (sym (l .before .before .h .given .1) ∙ l .before .before .before .before .read-header .ensures)) _ (looked .if1 .left) _ (measured .packet-length .ensures .0) _ (counted .1) (sym (counted .0) ∙ c .before .if2 .left))))
