@@ -52,20 +52,23 @@ pub fn read_header(s: &[u8]) -> Header
     if s.len() < total {
         return Header::Cut;
     }
+    let destination = octets::big_word(s, 16);
+    let source = octets::big_word(s, 12);
+    let protocol = octets::wide(s[9]);
     if ported {
         return Header::Values(Packet {
-            destination: octets::word_at(Order::Big, s, 16),
-            source: octets::word_at(Order::Big, s, 12),
-            protocol: octets::wide(s[9]),
+            destination,
+            source,
+            protocol,
             destination_port: octets::half_at(Order::Big, s, behind + 2),
             source_port: octets::half_at(Order::Big, s, behind),
             portless: 0,
         });
     }
     Header::Values(Packet {
-        destination: octets::word_at(Order::Big, s, 16),
-        source: octets::word_at(Order::Big, s, 12),
-        protocol: octets::wide(s[9]),
+        destination,
+        source,
+        protocol,
         destination_port: 0,
         source_port: 0,
         portless: 1,

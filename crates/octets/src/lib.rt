@@ -2,6 +2,7 @@
 ghost use mathlib.Core.Path.{_≡_};
 ghost use Prim.Native.Nat.{_+_, _<_};
 ghost use lib.ListN.{length};
+ghost use Rattle.octets.specs.declared.Order.the-variants.{Big, Little};
 ghost use Rattle.octets.specs.Octets.{half, word};
 
 // The order of the bytes of a number: the most significant first, or last.
@@ -35,10 +36,23 @@ pub fn word_at(order: Order, s: &[u8], at: usize) -> u32
     requires { ⌜ at + 3 < length (now s) ⌝ }
     ensures { λ r. ⌜ r ≡ word order (now (s .entry)) at ⌝ }
 {
-    let first = half_at(order, s, at);
-    let second = half_at(order, s, at + 2);
     match order {
-        Order::Big => first * 65536 + second,
-        Order::Little => second * 65536 + first,
+        Order::Big => big_word(s, at),
+        Order::Little => little_word(s, at),
     }
+}
+
+// The same in one order each: where the order is known, the compiler makes one load of it.
+pub fn big_word(s: &[u8], at: usize) -> u32
+    requires { ⌜ at + 3 < length (now s) ⌝ }
+    ensures { λ r. ⌜ r ≡ word Big (now (s .entry)) at ⌝ }
+{
+    half_at(Order::Big, s, at) * 65536 + half_at(Order::Big, s, at + 2)
+}
+
+fn little_word(s: &[u8], at: usize) -> u32
+    requires { ⌜ at + 3 < length (now s) ⌝ }
+    ensures { λ r. ⌜ r ≡ word Little (now (s .entry)) at ⌝ }
+{
+    half_at(Order::Little, s, at) + half_at(Order::Little, s, at + 2) * 65536
 }
