@@ -2,8 +2,8 @@
  * gateway.c - the firmware's loop, in small
  *
  * Loads a table of rules into a static store, lists what the store
- * holds, decides frames and counts them by action and by rule.  No heap
- * and no input: it prints gateway.expected.
+ * holds, deletes the rules that never win, decides frames and counts them
+ * by action and by rule.  No heap and no input: it prints gateway.expected.
  *
  * On an x86-64 machine, after `make lib`, in the top folder:
  *
@@ -40,6 +40,7 @@ static const struct {
 	{ 11, QUEUE_POSITION, IP(10,0,0,0), 24, IP(10,0,8,0), 22, 17, 17, ANY_PORT, WITHOUT_PORTS },	/* later fragments of UDP */
 	{ 20, QUEUE_SERVICE, IP(10,0,0,0), 25, IP(192,168,1,0), 24, 6, 6, 22, 22, WITH_PORTS },
 	{ 30, DROP, IP(10,0,0,0), 8, IP(192,168,0,0), 16, ANY_PROTOCOL, ANY_PORT, ANY_PACKET },
+	{ 35, QUEUE_SERVICE, IP(10,0,0,0), 24, IP(192,168,1,0), 24, 6, 6, 80, 80, WITH_PORTS },	/* behind 30: never wins */
 	{ 40, DROP, IP(172,16,0,0), 12, 0, 0, ANY_PROTOCOL, 0, 1023, WITH_PORTS },	/* ICMP is not caught by a port 0 */
 	{ 50, DROP, IP(172,16,0,0), 12, 0, 0, ANY_PROTOCOL, 0, 1023, ANY_PACKET },	/* ports of packets without ports: refused by 2 */
 	{ 60, DROP, IP(10,0,0,1), 24, 0, 0, ANY_PROTOCOL, ANY_PORT, ANY_PACKET },	/* no prefix: refused by 10 */
@@ -103,6 +104,40 @@ static uint32_t list(void)
 	return r.answer;
 }
 
+static void address(const char *before, uint32_t a)
+{
+	printf("%s%" PRIu32 ".%" PRIu32 ".%" PRIu32 ".%" PRIu32, before, a >> 24, a >> 16 & 255, a >> 8 & 255, a & 255);
+}
+
+/*
+ * Says for each rule the least values for which it wins, and deletes those
+ * that never win: no frame is decided otherwise without them.  Behind a
+ * deleted rule the next one has its place.  Gives what ended the list.
+ */
+static uint32_t prune(void)
+{
+	reamstork_rule r;
+
+	for (uint32_t place = 1; (r = reamstork_rule_at(store, store_len, place)).answer == REAMSTORK_DONE; ) {
+		reamstork_life f = reamstork_dead(store, store_len, r.number);
+
+		if (f.answer != REAMSTORK_DONE)
+			return f.answer;
+		printf("rule %" PRIu32, r.number);
+		if (f.dead) {
+			printf(" never wins\n");
+			if (reamstork_delete(store, store_len, r.number) != REAMSTORK_DONE)
+				break;
+		} else {
+			address(" wins first to ", f.value[REAMSTORK_DESTINATION]);
+			address(" from ", f.value[REAMSTORK_SOURCE]);
+			printf(", protocol %" PRIu32 ", ports %" PRIu32 " and %" PRIu32 ", portless %" PRIu32 "\n", f.value[REAMSTORK_PROTOCOL], f.value[REAMSTORK_DESTINATION_PORT], f.value[REAMSTORK_SOURCE_PORT], f.value[REAMSTORK_PORTLESS]);
+			place++;
+		}
+	}
+	return r.answer;
+}
+
 int main(void)
 {
 	uint32_t counts[ACTIONS] = { 0 }, unreadable = 0, cut = 0, worst = 0;
@@ -115,7 +150,7 @@ int main(void)
 
 		printf("rule %" PRIu32 ": %" PRIu32 ", %s\n", table[i].number, answer, reamstork_answer(answer));
 	}
-	if (list() != REAMSTORK_NO_SUCH_NUMBER)
+	if (list() != REAMSTORK_NO_SUCH_NUMBER || prune() != REAMSTORK_NO_SUCH_NUMBER)
 		return 1;	/* the store fails the check */
 	printf("cells in use: %" PRIu32 "\n", reamstork_cells(store, store_len).cells);
 

@@ -139,8 +139,8 @@
  *
  * A lookup touches the cells that it counts and six words besides; this
  * is measured, not proved.  check goes over all cells of the store, and so
- * do insert, delete, read, rule_at and cells, which run it first; insert
- * and delete then build the tree anew.
+ * do insert, delete, read, rule_at, cells and dead, which run it first;
+ * insert and delete then build the tree anew, and dead goes through it.
  *
  * The words of a store are a function of c, the default's action and the
  * rules.  Two stores with the same of these have the same words, bit for
@@ -190,9 +190,9 @@ extern "C" {
  * version than this, may be no store of this one: run reamstork_check
  * before the first lookup in them.
  */
-#define REAMSTORK_VERSION          "3.0"
+#define REAMSTORK_VERSION          "3.1"
 #define REAMSTORK_VERSION_MAJOR    3
-#define REAMSTORK_VERSION_MINOR    0
+#define REAMSTORK_VERSION_MINOR    1
 
 /*
  * LIMITS
@@ -254,6 +254,7 @@ extern "C" {
 typedef struct { uint32_t answer, rule, action, reads; } reamstork_found;
 typedef struct { uint32_t answer, number, action, low[6], high[6]; } reamstork_rule;
 typedef struct { uint32_t answer, cells; } reamstork_count;
+typedef struct { uint32_t answer, dead, value[6]; } reamstork_life;
 typedef struct { uint32_t answer, low, high; } reamstork_range;
 typedef struct { uint32_t key[65], packets[65], bytes[65]; } reamstork_tallies;
 typedef struct { uint32_t number, action, low[6], high[6]; } reamstork_record;
@@ -375,7 +376,8 @@ uint32_t reamstork_delete(uint32_t *words, size_t len, uint32_t number);
  *   9  otherwise
  *
  * Every store that an accepted start, insert or delete leaves passes.
- * Changes no word.  insert, delete, read, rule_at and cells run it first.
+ * Changes no word.  insert, delete, read, rule_at, cells and dead run it
+ * first.
  *
  * The check cannot see a change that makes the words another store, such
  * as another action, or another number that leaves the numbers rising.
@@ -444,6 +446,50 @@ reamstork_rule reamstork_rule_at(const uint32_t *words, size_t len, uint32_t pla
  * The other cells are free: in use and free add up to c.  Changes no word.
  */
 reamstork_count reamstork_cells(const uint32_t *words, size_t len);
+
+/*
+ * FIND OUT WHETHER A RULE EVER WINS
+ *
+ * Tables grow for years and nobody dares to delete.  A rule is dead where
+ * no six values within their tops make it the rule that decides: rules with
+ * lesser numbers hold, together, all that it holds.
+ *
+ *   9  the store fails the check
+ *   1  number above 65,535
+ *   4  no rule with this number is there
+ *   0  done: dead is 1 where the rule with this number is dead, and every
+ *      value is 0.  Otherwise dead is 0, and value has the six values, in
+ *      the order of the fields, of the least record for which
+ *      reamstork_lookup names this rule.  65,535 asks for the default
+ *
+ * in this order.  Changes no word.
+ *
+ * Of two records the lesser is the one with the lesser value in the first
+ * field in which they differ.  Values that no header gives count like any
+ * others, such as protocol 1 with ports: so a live rule may still be one
+ * that no packet meets, but a dead one is named by no lookup.  Look at dead
+ * before value: six zeros are a record too.
+ *
+ *     reamstork_life f = reamstork_dead(words, len, 10);
+ *     if (f.answer == REAMSTORK_DONE && f.dead)
+ *         reamstork_delete(words, len, 10);
+ *
+ * Deleting a dead rule changes rule and action of no lookup, and no other
+ * rule's life or least record.  So all dead rules of a table may go, in any
+ * order.  Reads and cells in use may become fewer.
+ *
+ * Deleting a live rule is another matter: it may bring a dead one to life.
+ * Of two rules with equal ranges the one with the greater number is dead,
+ * and where the other is deleted it decides in its place.  Inserting a rule
+ * may make others dead, but never brings one to life.
+ *
+ * The default is dead where the other rules hold all values.  It cannot be
+ * deleted.
+ *
+ * Each call runs the check once, and then goes through the tree until it
+ * finds the record, at most once.
+ */
+reamstork_life reamstork_dead(const uint32_t *words, size_t len, uint32_t number);
 
 /*
  * LOOK UP SIX VALUES

@@ -3,7 +3,7 @@
  *
  *     speed                          times, as a table
  *     speed count NAME CALL WHICH    lookups for callgrind, see speed.sh
- *     speed edit NAME CALL RULES CELLS BUDGET OVERLAP    one check or edit
+ *     speed edit NAME CALL RULES CELLS BUDGET OVERLAP    one check, life or edit
  *
  * Both run in turns over the same words, with the same rules and packets,
  * so that neither has better memory or a quieter moment.  A figure is the
@@ -24,6 +24,7 @@ struct library {
 	uint32_t (*insert)(uint32_t *, size_t, uint32_t, uint32_t, const uint32_t *, const uint32_t *);
 	uint32_t (*delete)(uint32_t *, size_t, uint32_t);
 	uint32_t (*check)(const uint32_t *, size_t);
+	reamstork_life (*dead)(const uint32_t *, size_t, uint32_t);
 	reamstork_found (*lookup)(const uint32_t *, size_t, uint32_t, uint32_t, uint32_t, uint32_t, uint32_t, uint32_t);
 	reamstork_found (*lookup_packet)(const uint32_t *, size_t, const uint8_t *, size_t);
 	reamstork_found (*tally)(const uint32_t *, size_t, const uint8_t *, size_t, reamstork_tallies *);
@@ -31,8 +32,8 @@ struct library {
 };
 
 static const struct library both[2] = {
-	{ reamstork_insert, reamstork_delete, reamstork_check, reamstork_lookup, reamstork_lookup_packet, reamstork_lookup_packet_tally, reamstork_scan },
-	{ plain_insert, plain_delete, plain_check, plain_lookup, plain_lookup_packet, plain_lookup_packet_tally, plain_scan },
+	{ reamstork_insert, reamstork_delete, reamstork_check, reamstork_dead, reamstork_lookup, reamstork_lookup_packet, reamstork_lookup_packet_tally, reamstork_scan },
+	{ plain_insert, plain_delete, plain_check, plain_dead, plain_lookup, plain_lookup_packet, plain_lookup_packet_tally, plain_scan },
 };
 
 static _Alignas(64) uint32_t words[REAMSTORK_WORDS(65536)];
@@ -179,6 +180,19 @@ static void edits(const struct library *l, double *took)
 	}
 }
 
+/* One call of dead for each rule, and the last one for the default. */
+static void lives(const struct library *l, double *took)
+{
+	for (uint32_t i = 0; i <= rule_count; i++) {
+		uint32_t number = i < rule_count ? rules[i].number : REAMSTORK_DEFAULT;
+		double from = now();
+
+		if (l->dead(words, len, number).answer != 0)
+			fail("a rule's life is refused");
+		took[i] = now() - from;
+	}
+}
+
 static int rising(const void *a, const void *b)
 {
 	double x = *(const double *)a, y = *(const double *)b;
@@ -214,6 +228,44 @@ static void measure(void (*thing)(const struct library *, double *), int figures
 		printf("  %-24s %12.1f ns %12.1f ns %8.2f\n", names[k], median(took[k][0]), median(took[k][1]), median(ratio[k]));
 }
 
+/*
+ * What a rule's life takes: the mean over all rules and the default, and the
+ * rule that takes longest, by the medians over the rounds.  Then both over a
+ * check, which is a part of each such call: the library's calls over the
+ * library's check, those of plain C over its own.
+ */
+static void measure_lives(void)
+{
+	static double took[2][65][ROUNDS], checks[2][ROUNDS];
+	double t[65], mean[2] = { 0, 0 }, worst[2] = { 0, 0 }, one[2];
+
+	for (int i = -1; i < ROUNDS; i++) {
+		for (int j = 0; j < 2; j++) {
+			int which = (i + j) & 1;
+
+			check(&both[which], t);
+			if (i >= 0)
+				checks[which][i] = t[0];
+			lives(&both[which], t);
+			for (uint32_t k = 0; i >= 0 && k <= rule_count; k++)
+				took[which][k][i] = t[k];
+		}
+	}
+	for (int which = 0; which < 2; which++) {
+		one[which] = median(checks[which]);
+		for (uint32_t k = 0; k <= rule_count; k++) {
+			double m = median(took[which][k]);
+
+			mean[which] += m / (rule_count + 1);
+			worst[which] = m > worst[which] ? m : worst[which];
+		}
+	}
+	printf("  %-24s %12.1f ns %12.1f ns %8.2f\n", "dead, mean of all rules", mean[0], mean[1], mean[0] / mean[1]);
+	printf("  %-24s %12.1f ns %12.1f ns %8.2f\n", "dead, the worst rule", worst[0], worst[1], worst[0] / worst[1]);
+	printf("  %-24s %12.2f    %12.2f\n", "dead, mean over a check", mean[0] / one[0], mean[1] / one[1]);
+	printf("  %-24s %12.2f    %12.2f\n", "dead, worst over a check", worst[0] / one[0], worst[1] / one[1]);
+}
+
 /* A table in the words, and packets for it. */
 static void draw_sample(uint32_t n, uint32_t c, uint32_t budget, int overlap)
 {
@@ -243,6 +295,12 @@ static void same_answer(reamstork_found a, reamstork_found b)
 		fail("the answers differ");
 }
 
+static void same_life(reamstork_life a, reamstork_life b)
+{
+	if (a.answer != 0 || memcmp(&a, &b, sizeof a) != 0)
+		fail("the lives of a rule differ");
+}
+
 static void same_winner(reamstork_found a, reamstork_winner b)
 {
 	if (b.answer != 0 || a.rule != b.rule || a.action != b.action)
@@ -252,7 +310,7 @@ static void same_winner(reamstork_found a, reamstork_winner b)
 /* Says what the sample is, and that both libraries answer alike. */
 static void describe(uint32_t n, uint32_t c)
 {
-	uint32_t most = 0, least = UINT32_MAX;
+	uint32_t most = 0, least = UINT32_MAX, dead = 0;
 	uint64_t reads = 0;
 
 	for (int i = 0; i < PACKETS; i++) {
@@ -270,7 +328,14 @@ static void describe(uint32_t n, uint32_t c)
 		if (f.reads > most)
 			most = f.reads;
 	}
-	printf("%u rules, c = %u, %u cells in use; reads %u to %u, mean %.1f\n", n, c, plain_cells(words, len).cells, least, most, (double)reads / PACKETS);
+	for (uint32_t i = 0; i <= n; i++) {
+		uint32_t number = i < n ? rules[i].number : REAMSTORK_DEFAULT;
+		reamstork_life f = plain_dead(words, len, number);
+
+		same_life(f, reamstork_dead(words, len, number));
+		dead += f.dead;
+	}
+	printf("%u rules, c = %u, %u cells in use; reads %u to %u, mean %.1f; %u dead\n", n, c, plain_cells(words, len).cells, least, most, (double)reads / PACKETS, dead);
 }
 
 static void times(uint32_t n, uint32_t c, uint32_t budget, int overlap)
@@ -289,6 +354,7 @@ static void times(uint32_t n, uint32_t c, uint32_t budget, int overlap)
 	measure(check, 1, &names[5]);
 	measure(by_scan, 1, &names[6]);
 	measure(edits, 2, edit_names);
+	measure_lives();
 	printf("\n");
 	fflush(stdout);
 }
@@ -338,7 +404,10 @@ static int lookups(const char *name, const char *call, const char *which)
 	return 0;
 }
 
-/* For callgrind too: one check, insert or delete, of the rule in the middle; or none, for what drawing the sample takes. */
+/*
+ * For callgrind too: one check, insert or delete, of the rule in the middle;
+ * the life of that rule; or none, for what drawing the sample takes.
+ */
 static int one_edit(const char *name, const char *call, char **sample)
 {
 	int plain = strcmp(name, "plain") == 0;
@@ -352,6 +421,8 @@ static int one_edit(const char *name, const char *call, char **sample)
 		wrong = 0;
 	else if (strcmp(call, "check") == 0)
 		wrong = l->check(words, len);
+	else if (strcmp(call, "dead") == 0)
+		wrong = l->dead(words, len, r->number).answer;
 	else if (strcmp(call, "delete") == 0)
 		wrong = l->delete(words, len, r->number);
 	else

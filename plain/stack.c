@@ -105,6 +105,11 @@ static void rule_at(void)
 	answer |= reamstork_rule_at(words, len, 21).answer;
 }
 
+static void dead(void)
+{
+	answer |= reamstork_dead(words, len, rules[20].number).answer;
+}
+
 static void cells(void)
 {
 	answer |= reamstork_cells(words, len).answer;
@@ -180,6 +185,7 @@ int main(void)
 	say("reamstork_read", used(read_one) - base);
 	say("reamstork_rule_at", used(rule_at) - base);
 	say("reamstork_cells", used(cells) - base);
+	say("reamstork_dead", used(dead) - base);
 	say("reamstork_lookup", used(lookup) - base);
 	say("reamstork_lookup_packet", used(lookup_packet) - base);
 	say("reamstork_lookup_packet_tally", used(lookup_packet_tally) - base);

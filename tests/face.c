@@ -1,4 +1,4 @@
-/* What the header has beside the calls: the names of the fields, the texts of the answers, a rule that was read handed to a scan and to an insert, and a table listed and loaded again; and its examples of packets that are refused.
+/* What the header has beside the calls: the names of the fields, the texts of the answers, a rule that was read handed to a scan and to an insert, and a table listed and loaded again; its examples of packets that are refused; and rules that never win.
 
        face answers      a line for each answer, number and text
        face version      the version, and the same from its two numbers
@@ -144,6 +144,59 @@ static int packets(void) {
   return 0;
 }
 
+static int same_life(reamstork_life f, uint32_t answer, uint32_t dead, const uint32_t *value) {
+  return f.answer == answer && f.dead == dead && memcmp(f.value, value, sizeof f.value) == 0;
+}
+
+static uint32_t named(const uint32_t *v) {
+  return reamstork_lookup(one, len, v[REAMSTORK_DESTINATION], v[REAMSTORK_SOURCE], v[REAMSTORK_PROTOCOL], v[REAMSTORK_DESTINATION_PORT], v[REAMSTORK_SOURCE_PORT], v[REAMSTORK_PORTLESS]).rule;
+}
+
+/* Rules that never win, as the header tells of them. */
+static int lives(void) {
+  const uint32_t zeros[REAMSTORK_FIELDS] = { 0 }, low[REAMSTORK_FIELDS] = { 10, 20, 30, 40, 50, 0 }, high[REAMSTORK_FIELDS] = { 15, 26, 37, 48, 59, 0 };
+  const uint32_t tops[REAMSTORK_FIELDS] = { REAMSTORK_TOP_ADDRESS, REAMSTORK_TOP_ADDRESS, REAMSTORK_TOP_PROTOCOL, REAMSTORK_TOP_PORT, REAMSTORK_TOP_PORT, REAMSTORK_TOP_PORTLESS };
+  const uint32_t behind[REAMSTORK_FIELDS] = { 10, 20, 30, 40, 60, 0 };
+  uint32_t wide[REAMSTORK_FIELDS];
+
+  SURE(sizeof(reamstork_life) == 32 && offsetof(reamstork_life, answer) == 0 && offsetof(reamstork_life, dead) == 4 && offsetof(reamstork_life, value) == 8);
+  SURE(reamstork_start(one, len, 100) == REAMSTORK_DONE);
+  SURE(same_life(reamstork_dead(one, len, REAMSTORK_DEFAULT), REAMSTORK_DONE, 0, zeros));
+
+  /* 7 and 9 have equal ranges, 12 has one source port more */
+  memcpy(wide, high, sizeof wide);
+  wide[REAMSTORK_SOURCE_PORT]++;
+  SURE(reamstork_insert(one, len, 9, 90, low, high) == REAMSTORK_DONE);
+  SURE(same_life(reamstork_dead(one, len, 9), REAMSTORK_DONE, 0, low) && named(low) == 9);
+  SURE(reamstork_insert(one, len, 7, 70, low, high) == REAMSTORK_DONE);
+  SURE(reamstork_insert(one, len, 12, 12, low, wide) == REAMSTORK_DONE);
+  SURE(same_life(reamstork_dead(one, len, 7), REAMSTORK_DONE, 0, low) && named(low) == 7);
+  SURE(same_life(reamstork_dead(one, len, 9), REAMSTORK_DONE, 1, zeros));
+  SURE(same_life(reamstork_dead(one, len, 12), REAMSTORK_DONE, 0, behind) && named(behind) == 12);
+  SURE(same_life(reamstork_dead(one, len, REAMSTORK_DEFAULT), REAMSTORK_DONE, 0, zeros) && named(zeros) == REAMSTORK_DEFAULT);
+  SURE(reamstork_insert(one, len, REAMSTORK_NUMBER_MAX, 1, zeros, tops) == REAMSTORK_DONE);
+  SURE(same_life(reamstork_dead(one, len, REAMSTORK_NUMBER_MAX), REAMSTORK_DONE, 0, zeros));
+  SURE(same_life(reamstork_dead(one, len, REAMSTORK_DEFAULT), REAMSTORK_DONE, 1, zeros));
+
+  /* the dead one goes, and nothing else changes; where the live one goes instead, the other comes to life */
+  memcpy(two, one, sizeof one);
+  SURE(reamstork_delete(one, len, 9) == REAMSTORK_DONE);
+  SURE(named(low) == 7 && named(behind) == 12 && named(zeros) == REAMSTORK_NUMBER_MAX);
+  SURE(same_life(reamstork_dead(one, len, 12), REAMSTORK_DONE, 0, behind));
+  memcpy(one, two, sizeof one);
+  SURE(reamstork_delete(one, len, 7) == REAMSTORK_DONE);
+  SURE(same_life(reamstork_dead(one, len, 9), REAMSTORK_DONE, 0, low) && named(low) == 9);
+
+  /* refused as a read is, with zeros; no word is changed */
+  memcpy(two, one, sizeof one);
+  SURE(same_life(reamstork_dead(one, len, 7), REAMSTORK_NO_SUCH_NUMBER, 0, zeros));
+  SURE(same_life(reamstork_dead(one, len, REAMSTORK_DEFAULT + 1), REAMSTORK_BAD_NUMBER, 0, zeros));
+  SURE(same_life(reamstork_dead(one, len - 1, 9), REAMSTORK_BAD_STORE, 0, zeros));
+  SURE(same_life(reamstork_dead(one, len - 1, REAMSTORK_DEFAULT + 1), REAMSTORK_BAD_STORE, 0, zeros));
+  SURE(memcmp(one, two, sizeof one) == 0);
+  return 0;
+}
+
 int main(int argc, char **argv) {
   const char *what = argc > 1 ? argv[1] : "";
 
@@ -156,5 +209,5 @@ int main(int argc, char **argv) {
     printf("%s\n%d.%d\n", REAMSTORK_VERSION, REAMSTORK_VERSION_MAJOR, REAMSTORK_VERSION_MINOR);
     return 0;
   }
-  return rules() || packets();
+  return rules() || packets() || lives();
 }

@@ -78,6 +78,8 @@ def question(talk, rng, store, lent, table):
         talk.read(store, number)
     for place in (1, rng.randint(0, MOST_RULES + 1)):
         talk.rule_at(store, place)
+    for number in (DEFAULT, rng.choice(table).number, 65536):
+        talk.dead(store, number)
     for _ in range(4):
         values = values_near(rng, table)
         asked += [(0, values)] * 2
@@ -94,13 +96,19 @@ def question(talk, rng, store, lent, table):
 def judge(results, asked, lent):
     """Judges the answers to one question; says whether the check passed."""
     check, cells = results[0], results[1]
-    reads, lookups = results[2:8], results[8:8 + len(asked)]
+    reads, lives, lookups = results[2:8], results[8:11], results[11:11 + len(asked)]
     expect(check in ((0,), (9,)), 'the check gave %s' % (check,))
     passed = check == (0,)
     if not passed:
         expect(cells == (9, 0), 'cells gave %s where the check gives 9' % (cells,))
         for read in reads:
-            expect(read == (9,) + (0,) * 14, 'read or rule_at gave %s where the check gives 9' % (read,))
+            expect(read == (9,) + (0,) * 14,
+                   'read or rule_at gave %s where the check gives 9' % (read,))
+        for life in lives:
+            expect(life == (9,) + (0,) * 7, 'dead gave %s where the check gives 9' % (life,))
+    else:
+        expect(lives[0][0] == 0 and lives[1][0] in (0, 4) and lives[2] == (1,) + (0,) * 7,
+               'dead gave %s in a store that passes' % (lives,))
     most = len(TOPS) * max((len(lent) - 1024) // 8, 0)
     for (answer, values), got in zip(asked, lookups):
         if answer:

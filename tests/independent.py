@@ -18,6 +18,8 @@ import time
 from collections import Counter
 
 from cut import cut_examples, cut_grid, cuts
+from dead import (dead_examples, dead_ports, dead_refusals, dead_sixty_four, hidden,
+                  hidden_worlds)
 from drive import Disagreement, Driver, Talk
 from edits import crowd, edits, fit, histories, large
 from hostile import garbage, hostile, hostile_large, mazes
@@ -32,13 +34,15 @@ from tallies import differences, hostile_tallies, tallies, tally_edges
 FIXED = [bench_table, starts, any_words_before, every_length, sizes_of_a_walk, sixty_four,
          order_of_refusals, header_grid, seven_before_nine, every_prefix, captures, tally_edges,
          bench_list, corners, port_rule, request_example, who_has_ports, most_reads,
-         port_rule_damage, cut_examples, cut_grid]
+         port_rule_damage, cut_examples, cut_grid, dead_examples, dead_ports, dead_sixty_four,
+         dead_refusals]
 
 # In this order again and again; the costly ones come seldom.
 RANDOM = [edits, hostile, fit, headers, edits, histories, hostile, garbage, edits, crowd, fit,
           histories, hostile, prefixes, edits, headers, large, hostile, histories, hostile_large,
           mazes, mazes, tallies, differences, tallies, hostile_tallies, lists,
-          beside, port_tables, port_rule_damage, port_tables, cuts]
+          beside, port_tables, port_rule_damage, port_tables, cuts, hidden, hidden_worlds, hidden,
+          hidden]
 
 
 class Run:

@@ -126,6 +126,9 @@ def every_length(talk, rng):
         talk.cells(store.id, (0, 6) if good else (9, 0))
         talk.read(store.id, DEFAULT, store.account.read(DEFAULT) if good else (9,) + (0,) * 14)
         talk.rule_at(store.id, 1, store.account.rule_at(1) if good else (9,) + (0,) * 14)
+        for number, life in ((7, (0,) * 8), (DEFAULT, (0, 1) + (0,) * 6), (8, (4,) + (0,) * 7),
+                             (65536, (1,) + (0,) * 7)):
+            talk.dead(store.id, number, life if good else (9,) + (0,) * 7)
         talk.lookup(store.id, values, (0, 7, 9, 6) if good else (9, 0, 0, 0))
         talk.lookup(store.id, (1, 2, 256, 4, 5, 0), (11, 0, 0, 0))
         talk.packet(store.id, readable, (0, 7, 9, 6) if good else (9, 0, 0, 0))
@@ -141,6 +144,7 @@ def every_length(talk, rng):
         good = length >= n
         talk.check(walled, 0 if good else 9)
         talk.cells(walled, (0, 6) if good else (9, 0))
+        talk.dead(walled, 7, (0,) * 8 if good else (9,) + (0,) * 7)
         talk.lookup(walled, values, (0, 7, 9, 6) if good else (9, 0, 0, 0))
         talk.packet(walled, readable, (0, 7, 9, 6) if good else (9, 0, 0, 0))
         talk.packet(walled, readable[:23], (14, 0, 0, 0))
@@ -230,6 +234,7 @@ def order_of_refusals(talk, rng):
     for number in (65534, 65535, 65536, 2 ** 32 - 1, 65536 + 20, 19, 21):
         store.delete(number)
         store.read(number)
+        store.dead(number)
     store.insert(Rule(65534, 4, good.low, good.high))
     store.insert(Rule(0, 5, good.low, good.high))
     for _ in range(20):

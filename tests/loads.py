@@ -8,12 +8,15 @@ from reference import LEAST_CELLS, MOST_CELLS, read_header
 
 # The layout of a store, as docs/STORE.md has it.
 FRONT = 1024                   # the words before the cells
+FREE = 1022                    # the word that says how many cells the tree takes
 BEGIN = 1023                   # the word that says where a walk begins
 PLACES = 65                    # rows, and places of a tally record
 KIND, MARK = 2, 0              # the word that names the kind, and what it says
 FRONT_LOADS = (0, 1, KIND, BEGIN) # what every lookup loads of the front, besides the rule's row
 RULE_LOADS = (0, 1)            # what it loads of that row: number and action
 FIXED = len(FRONT_LOADS) + len(RULE_LOADS)
+CHECK_LOADS = (2,) + (1,) * 7  # how often at most the check loads each word of a cell
+LINKS = 3                      # the words of a cell that a rule's life takes: end, next and down
 RECORD = 14                    # words of a record of a list
 RULE_ENDS = 12                 # words of a rule's ends, low and high, that an insert is lent
 
@@ -21,8 +24,8 @@ RULE_ENDS = 12                 # words of a rule's ends, low and high, that an i
 HEADER_BYTES = {0, 2, 3, 6, 7, 9, *range(12, 20)}
 
 # The commands of trace.c, and where it puts what it lends.
-(FILL, GET, START, START_WITH, INSERT, DELETE, CHECK, READ, RULE_AT, CELLS, LOOKUP, LOOKUP_PACKET,
- LOOKUP_TALLY, SCAN, PREFIX, CLEAR, DIFFERENCE) = range(17)
+(FILL, GET, START, START_WITH, INSERT, DELETE, CHECK, READ, RULE_AT, DEAD, CELLS, LOOKUP,
+ LOOKUP_PACKET, LOOKUP_TALLY, SCAN, PREFIX, CLEAR, DIFFERENCE) = range(18)
 BASE, SIZE = 0x300000000, 0x100000
 ENDS, TALLIES, PACKET, RECORDS, STORE = 0x1000, 0x2000, 0x4000, 0x8000, 0x10000
 STACK = 1 << 20
@@ -219,6 +222,19 @@ def see_reader(call, touched, result):
     expect(not touched.stores, 'it writes words of the store')
 
 
+def see_dead(call, touched, result):
+    """The check goes over the cells once. Then, where no refusal is due, the tree is gone
+    through, at most once: free cells are not in it."""
+    see_reader(call, touched, result)
+    for word, times in touched.loaded(STORE, call.len).items():
+        cell, part = divmod(word - FRONT, CELL)
+        if cell >= 0:
+            tree = result[0] == 0 and part < LINKS and cell < call.words[FREE]
+            most = CHECK_LOADS[part] + tree
+            expect(times <= most, 'it loads word %d of cell %d %d times, and %d are enough', part,
+                   cell, times, most)
+
+
 def see(call, touched, result):
     """Raises a Fault where a call does not touch what it should, or more."""
     if call.op == LOOKUP:
@@ -229,5 +245,5 @@ def see(call, touched, result):
         touched.only()
     else:
         {LOOKUP_PACKET: see_packet, LOOKUP_TALLY: see_tally, SCAN: see_scan, CHECK: see_reader,
-         READ: see_reader, RULE_AT: see_reader,
+         READ: see_reader, RULE_AT: see_reader, DEAD: see_dead,
          CELLS: see_reader}.get(call.op, see_edit)(call, touched, result)

@@ -79,6 +79,36 @@ def count_cells(rules, bound):
     return under(tuple(range(len(rules))), 0)
 
 
+def least_record(rules, number):
+    """The least record of values, compared field by field from field 1, that makes the rule
+    with this number the winner among the rules; None where there is none.
+
+    Records are tried in rising order. In each field a value is tried only if it is 0, or a
+    rule begins there, or one has ended just before: from there to the next such value the
+    same rules hold all values, so where the least of them is of no use none is. Rules with a
+    greater number take no record from the one asked for and are left out."""
+    rules = [rule for rule in rules if rule.number <= number]
+    mine = next(place for place, rule in enumerate(rules) if rule.number == number)
+    useless = set()
+
+    def first(held, field):
+        """The least values from this field on, over the rules that hold the values before."""
+        if mine not in held or (held, field) in useless:
+            return None
+        if field == len(TOPS):
+            return () if held == (mine,) else None
+        tried = {0} | {rules[i].low[field] for i in held} | {rules[i].high[field] + 1 for i in held}
+        for value in sorted(value for value in tried if value <= TOPS[field]):
+            rest = first(tuple(i for i in held
+                               if rules[i].low[field] <= value <= rules[i].high[field]), field + 1)
+            if rest is not None:
+                return (value,) + rest
+        useless.add((held, field))
+        return None
+
+    return first(tuple(range(len(rules))), 0)
+
+
 def range_fault(low, high):
     """What gets 2: a low end above its high end, a high end above the top, or a
     narrow port range with anything but 0 to 0 in field 6."""
@@ -153,6 +183,15 @@ class Account:
         if not 1 <= place <= len(numbers):
             return (NOT_THERE,) + (0,) * 14
         return self.read(numbers[place - 1])
+
+    def dead(self, number):
+        """(answer, dead, six values): refused as a read is; for a dead rule 1 and zeros, for a
+        live one 0 and the least record that makes it the winner."""
+        answer = self.read(number)[0]
+        if answer:
+            return (answer, 0) + (0,) * 6
+        record = least_record(self.table(), number)
+        return (DONE, 1) + (0,) * 6 if record is None else (DONE, 0) + record
 
     def cells(self):
         return (DONE, count_cells(self.table(), MOST_CELLS))

@@ -41,6 +41,11 @@ class Store:
     def rule_at(self, place):
         self.talk.rule_at(self.id, place, self.account.rule_at(place))
 
+    def dead(self, number):
+        want = self.account.dead(number)
+        self.talk.dead(self.id, number, want)
+        return want
+
     def lookup(self, values):
         self.talk.lookup(self.id, values, self.account.lookup(values))
 
@@ -60,6 +65,8 @@ class Store:
         for place in {0, 1, len(numbers), len(numbers) + 1, rng.randint(1, MOST_RULES + 1),
                       rng.choice((65, 2 ** 16, 2 ** 32 - 1, rng.getrandbits(32)))}:
             self.rule_at(place)
+        self.dead(rng.choice(numbers + [DEFAULT]))
+        self.dead(rng.choice((DEFAULT, 65534, 65536, 2 ** 32 - 1, rng.randrange(65535))))
         table = account.table()
         for _ in range(lookups):
             values = values_near(rng, table)

@@ -19,7 +19,8 @@ records and lists. Of each call is seen (loads.py):
   once, up to the one that is held, and writes the one place that counts.
 - A scan loads words of every record of its list, no more than the list has, and touches
   nothing else that could be lent.
-- Check, read, rule_at and cells write nothing; nor does a start or an edit that is refused.
+- Dead goes over the cells once for the check, and at most once through the tree.
+- Check, read, rule_at, dead and cells write nothing; nor does a start or an edit that is refused.
 - No call touches a word behind its store or in front of it, nor any memory but what
   it was lent, its stack, and for loads the program's constants.
 
@@ -34,10 +35,10 @@ import time
 from collections import Counter
 
 from calls import ARCHIVE, Program, Script, cannot
-from loads import (BEGIN, CELL, CELLS, CHECK, CLEAR, DELETE, DIFFERENCE, FRONT, INSERT, LOOKUP,
-                   LOOKUP_PACKET, LOOKUP_TALLY, PLACES, PREFIX, READ, RULE_AT, SCAN, START,
+from loads import (BEGIN, CELL, CELLS, CHECK, CLEAR, DEAD, DELETE, DIFFERENCE, FRONT, INSERT,
+                   LOOKUP, LOOKUP_PACKET, LOOKUP_TALLY, PLACES, PREFIX, READ, RULE_AT, SCAN, START,
                    START_WITH, Fault, Touched, see)
-from reference import LEAST_CELLS, TOPS, Rule, default_rule
+from reference import DEFAULT, LEAST_CELLS, TOPS, Rule, default_rule
 from tables import World, packet_of, random_packet, values_above, values_near
 
 # each call's name, and the answers that a run has to see
@@ -45,7 +46,7 @@ CALLS = {
     START: ('start', {0, 8}), START_WITH: ('start_with', {0, 8}),
     INSERT: ('insert', {0, 1, 2, 3, 5, 6, 9}), DELETE: ('delete', {0, 1, 4, 9}),
     CHECK: ('check', {0, 9}), READ: ('read', {0, 1, 4, 9}), RULE_AT: ('rule_at', {0, 4, 9}),
-    CELLS: ('cells', {0, 9}),
+    DEAD: ('dead', {0, 1, 4, 9}), CELLS: ('cells', {0, 9}),
     LOOKUP: ('lookup', {0, 9, 11}), LOOKUP_PACKET: ('lookup_packet', {0, 7, 9, 14}),
     LOOKUP_TALLY: ('lookup_packet_tally', {0, 7, 9, 13, 14}), SCAN: ('scan', {0, 11}),
     PREFIX: ('prefix', {0, 10}), CLEAR: ('tallies_clear', set()),
@@ -134,6 +135,8 @@ def readers(script, rng, rules):
     script.call(CELLS)
     for number in (rng.choice(rules).number, rng.randrange(65535), 65536):
         script.call(READ, number)
+        script.call(DEAD, number)
+    script.call(DEAD, rng.choice((DEFAULT, rng.choice(rules).number)))
     for place in (0, 1, len(rules), 65):
         script.call(RULE_AT, place)
 

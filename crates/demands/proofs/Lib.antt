@@ -19,4 +19,5 @@ pub mod Tallied
 pub mod Named
 pub mod Scan
 pub mod Portless
+pub mod Dead
 pub mod Shown

@@ -9,6 +9,7 @@ use Rattle.demands.specs.Bench.{StarredCalls}
 use Rattle.demands.specs.Tally.{Tallied}
 use Rattle.demands.specs.Scan.{Scan}
 use Rattle.demands.specs.Portless.{Portless}
+use Rattle.demands.specs.Dead.{Dead}
 use Rattle.demands.proofs.Demand1.{demand1}
 use Rattle.demands.proofs.Demand2.{demand2}
 use Rattle.demands.proofs.Demand3.{demand3}
@@ -17,6 +18,7 @@ use Rattle.demands.proofs.Bench.{bench}
 use Rattle.demands.proofs.Tallied.{tallied}
 use Rattle.demands.proofs.Scan.{scanned}
 use Rattle.demands.proofs.Portless.{portless}
+use Rattle.demands.proofs.Dead.{dead}
 
-pub shown : Demand1 × Demand2 × Demand3 × Check ipv4 × StarredCalls × Tallied × Scan × Portless
-shown = (demand1, demand2, demand3, check ipv4 ipv4-shaped, bench, tallied, scanned, portless)
+pub shown : Demand1 × Demand2 × Demand3 × Check ipv4 × StarredCalls × Tallied × Scan × Portless × Dead
+shown = (demand1, demand2, demand3, check ipv4 ipv4-shaped, bench, tallied, scanned, portless, dead)

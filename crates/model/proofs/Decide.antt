@@ -39,7 +39,7 @@ module _ (k : Kind) (a : ℕ) where
   default-lowest i [] = tt
   default-lowest i (t ∷ ts) = (low-zero i, default-lowest (suc i) ts)
 
-  default-full : (i : ℕ) (ts : List ℕ) → drop i (k .tops) ≡ ts → full (fieldsFrom i ts) (defaultRule k a) ≡ true
+  pub default-full : (i : ℕ) (ts : List ℕ) → drop i (k .tops) ≡ ts → full (fieldsFrom i ts) (defaultRule k a) ≡ true
   default-full i [] h = refl
   default-full i (t ∷ ts) h =
       let z = next (k .tops) i h in

@@ -8,9 +8,11 @@ ghost use Rattle.layout.specs.Store.{startAnswer, startWords, insertSays, inser
 ghost use Rattle.lookup.specs.Walk.{lookupValues, lookupPacket};
 ghost use Rattle.tally.specs.Tally.{tallyAnswer, talliesLeft, cleared, difference};
 ghost use Rattle.scan.specs.Scan.{scanValues};
+ghost use Rattle.live.specs.Live.{deadSays};
 ghost use Rattle.reamstork.specs.Face.{ruleOf, ruleRead, checkSays};
 use audit::Count;
 use ipv4::Rule;
+use live::Life;
 use lookup::Found;
 use prefix::Range;
 use scan::Winner;
@@ -116,6 +118,14 @@ pub extern "C" fn reamstork_cells(words: &[u32]) -> Count
     ensures { λ r. ⌜ (r .answer ≡ cellsSays ipv4 (now (words .entry))) × (r .cells ≡ cellsGives ipv4 (now (words .entry))) ⌝ }
 {
     store::cells(words)
+}
+
+// Says whether the rule of a number never wins, and for one that does the least record that it decides.
+#[no_mangle]
+pub extern "C" fn reamstork_dead(words: &[u32], number: u32) -> Life
+    ensures { λ r. ⌜ r ≡ deadSays ipv4 (now (words .entry)) number ⌝ }
+{
+    live::dead(words, number)
 }
 
 // Looks six values up.

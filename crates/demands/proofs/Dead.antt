@@ -1,0 +1,151 @@
+-- Rules that never win, by the store's rules alone.
+-- Assumes nothing.
+use mathlib.Core.Path.{_≡_, refl, sym, ap, subst, _∙_}
+use mathlib.Core.Bool.{Bool, true, false, cond}
+use mathlib.Core.Logic.{_⊎_, inl, inr, ⊎-elim, _≢_}
+use mathlib.Core.List.{List, map}
+use Prim.Native.Nat.{ℕ}
+use native.Mathlib.Omega.{arith}
+use lib.Dec.{eqb}
+use borrow.Author.Tests.{eqb-true, eqb-false}
+use Rattle.model.specs.Lists.{In}
+use Rattle.model.specs.Table.{Kind, Rule, Shaped, defaultRule, winnerOf}
+use Rattle.model.specs.Ipv4.{ipv4, ipv4-shaped}
+use Rattle.model.proofs.Tests.{by-test}
+use Rattle.model.proofs.Keep.{in-left, in-right}
+use Rattle.model.proofs.Limits.{distinct, from-every}
+use Rattle.model.proofs.Decide.{winner-in, winner-holds, winner-least}
+use Rattle.header.specs.declared.Packet.{Packet}
+use Rattle.header.specs.Facts.{WithinTops}
+use Rattle.layout.specs.Store.{tableOf, readSays, deleteSays, deleteWords}
+use Rattle.search.specs.Search.{deadOf, firstWon}
+use Rattle.search.specs.Facts.{Means}
+use Rattle.search.proofs.Topped.{tops-right as in-tops-right, right-tops}
+use Rattle.live.specs.declared.Life.{Life}
+use Rattle.live.specs.Live.{life, lifeOf, deadSays}
+use Rattle.live.specs.Facts.{Lives}
+use Rattle.live.proofs.Facts.{alive}
+use Rattle.lookup.specs.Walk.{lookupValues}
+use Rattle.demands.specs.Calls.{Passes, rulesIn, defaultIn, everyIn, valuesIn, lookup}
+use Rattle.demands.specs.Demand2.{Names, Edited}
+use Rattle.demands.specs.Demand1.{Refuses, done, There}
+use Rattle.demands.specs.Dead.{Wins, noRecord, Said, SameRule, Dead}
+use Rattle.demands.proofs.Held.{right, checked-0}
+use Rattle.demands.proofs.Fields.{all-held, held-all}
+use Rattle.demands.proofs.Packets.{tops-right}
+use Rattle.demands.proofs.Decided.{lookup-is}
+use Rattle.demands.proofs.Demand1.{demand1}
+use Rattle.demands.proofs.Demand2.{demand2}
+
+-- the call answers as reading does
+answer-read : (k : Kind) (ws : List ℕ) (n : ℕ) → deadSays k ws n .answer ≡ readSays k ws n
+unfolding lifeOf
+answer-read k ws n = go (readSays k ws n) (eqb (readSays k ws n) 0) refl (deadOf k (tableOf k ws) n)
+  where
+    go : (a : ℕ) (b : Bool) → eqb a 0 ≡ b → (d : Bool) → cond b (cond d (life 0 1 (map (λ t. 0) (k .tops))) (life 0 0 (firstWon k (tableOf k ws) n))) (life a 0 (map (λ t. 0) (k .tops))) .answer ≡ a
+    go a true e true = sym (eqb-true a 0 e)
+    go a true e false = sym (eqb-true a 0 e)
+    go a false e d = refl
+
+zero-or-one : (k : Kind) (ws : List ℕ) (n : ℕ) → (deadSays k ws n .dead ≡ 0) ⊎ (deadSays k ws n .dead ≡ 1)
+unfolding lifeOf
+zero-or-one k ws n = go (eqb (readSays k ws n) 0) (deadOf k (tableOf k ws) n)
+  where
+    go : (b d : Bool) → (cond b (cond d (life 0 1 (map (λ t. 0) (k .tops))) (life 0 0 (firstWon k (tableOf k ws) n))) (life (readSays k ws n) 0 (map (λ t. 0) (k .tops))) .dead ≡ 0)
+        ⊎ (cond b (cond d (life 0 1 (map (λ t. 0) (k .tops))) (life 0 0 (firstWon k (tableOf k ws) n))) (life (readSays k ws n) 0 (map (λ t. 0) (k .tops))) .dead ≡ 1)
+    go true true = inr refl
+    go true false = inl refl
+    go false d = inl refl
+
+module _ (k : Kind) (s : Shaped k) (ws : List ℕ) (h : Passes k ws) where
+  -- the rule that wins is the table's winner, by its number
+  module _ (r : Rule) (m : In r (everyIn k ws)) where
+    means : Means k (tableOf k ws) (r .number) (Wins k ws r)
+    means vs i =
+        let t = tableOf k ws in
+        let w = winnerOf k t vs in
+        let v = in-tops-right k vs i in
+        let a : Wins k ws w vs = record { holds = all-held k vs w (winner-holds k t vs v); least = λ x n b. winner-least k t vs v x n (held-all k vs x b) } in (
+          λ e. subst (λ (x : Rule). Wins k ws x vs) (distinct k t (right k s ws h) w r (inr (winner-in k t vs v)) (inr m) e) a,
+          λ b. omega (arith, winner-least k t vs v r m (held-all k vs r (b .holds)), b .least w (winner-in k t vs v) (a .holds)),
+        )
+
+    read : readSays k ws (r .number) ≡ 0
+    read = sym (answer-read k ws (r .number)) ∙ alive .of-rule k s ws h r m .answer
+
+    lives : Lives k ws (r .number) (Wins k ws r)
+    lives = alive .lives k s ws (r .number) read (Wins k ws r) means
+
+-- what is said of a rule
+said : (ws : List ℕ) → Passes ipv4 ws → (r : Rule) → In r (everyIn ipv4 ws) → Said ws r
+said ws h r m =
+    let l = lives ipv4 ipv4-shaped ws h r m in
+    record {
+      answer = l .answer;
+      one-of = zero-or-one ipv4 ws (r .number);
+      dead = l .dead;
+      dead-record = l .dead-value;
+      live = l .live .0;
+      named = λ d.
+          let e = l .live .0 d in
+          let vs = deadSays ipv4 ws (r .number) .value in
+          let v = in-tops-right ipv4 vs (e .within) in
+          let n = means ipv4 ipv4-shaped ws h r m vs (e .within) .1 (e .holds) in
+          let q = distinct ipv4 (tableOf ipv4 ws) (right ipv4 ipv4-shaped ws h) (winnerOf ipv4 (tableOf ipv4 ws) vs) r (inr (winner-in ipv4 (tableOf ipv4 ws) vs v)) (inr m) n in
+          rw (lookup-is ipv4 ipv4-shaped ws h vs v) (n, ap (λ (x : Rule). x .action) q);
+    }
+
+-- a dead rule is deleted: the rule that decided before is still there, and no other has come
+module _ (ws : List ℕ) (n : ℕ) (d : deadSays ipv4 ws n .dead ≡ 1) (a : deleteSays ipv4 ws n ≡ 0) (h : Passes ipv4 ws) where
+  abbrev after : List ℕ
+  after = deleteWords ipv4 ws n
+
+  edit : Edited ipv4 ws after (λ x. In x (rulesIn ipv4 ws) × (x .number ≢ n))
+  edit = demand2 .delete ws n a
+
+  same-default : defaultRule ipv4 (defaultIn ipv4 after) ≡ defaultRule ipv4 (defaultIn ipv4 ws)
+  same-default = ap (λ (x : ℕ). defaultRule ipv4 x) (edit .default)
+
+  still : (x : Rule) → In x (everyIn ipv4 ws) → x .number ≢ n → In x (everyIn ipv4 after)
+  still x m u = ⊎-elim
+      (λ (i : In x (rulesIn ipv4 ws)). in-left (rulesIn ipv4 after) _ _ (edit .rules x .1 (i, u)))
+      (λ (q : x ≡ defaultRule ipv4 (defaultIn ipv4 ws)). subst (λ (y : Rule). In y (everyIn ipv4 after)) (same-default ∙ sym q) (demand2 .default after))
+      (from-every ipv4 (tableOf ipv4 ws) x m)
+
+  before : (x : Rule) → In x (everyIn ipv4 after) → In x (everyIn ipv4 ws)
+  before x m = ⊎-elim
+      (λ (i : In x (rulesIn ipv4 after)). in-left (rulesIn ipv4 ws) _ _ (edit .rules x .0 i .0))
+      (λ (q : x ≡ defaultRule ipv4 (defaultIn ipv4 after)). subst (λ (y : Rule). In y (everyIn ipv4 ws)) (sym same-default ∙ sym q) (demand2 .default ws))
+      (from-every ipv4 (tableOf ipv4 after) x m)
+
+  module _ (p : Packet) (t : WithinTops p) where
+    old : Names ipv4 ws (valuesIn p) (lookup ws p)
+    old = demand2 .by-values ws h p t
+
+    new : Names ipv4 after (valuesIn p) (lookup after p)
+    new = demand2 .by-values after (edit .passes) p t
+
+    not-it : old .rule .number ≢ n
+    not-it e = said ws h (old .rule) (old .one-of) .dead .0 (subst (λ (x : ℕ). deadSays ipv4 ws x .dead ≡ 1) (sym e) d) (valuesIn p)
+        (right-tops ipv4 (valuesIn p) (tops-right p t)) (record { holds = old .holds; least = old .least })
+
+    same-rule : new .rule ≡ old .rule
+    same-rule =
+        let m = before (new .rule) (new .one-of) in
+        old .only (new .rule) m (omega (arith, old .least (new .rule) m (new .holds), new .least (old .rule) (still (old .rule) (old .one-of) not-it) (old .holds)))
+
+    same : SameRule (lookup after p) (lookup ws p)
+    same = (
+      new .number ∙ ap (λ (x : Rule). x .number) same-rule ∙ sym (old .number),
+      new .action ∙ ap (λ (x : Rule). x .action) same-rule ∙ sym (old .action),
+    )
+
+pub dead : Dead
+dead =
+    record {
+      answer = λ ws n u. rw (answer-read ipv4 ws n) (demand1 .read ws n u);
+      answer-default = λ ws. rw (answer-read ipv4 ws 65535) (demand1 .read-default ws);
+      refused = λ ws n u. let q = alive .refused ipv4 ws n (λ e. u (answer-read ipv4 ws n ∙ e)) in (q .dead, q .value);
+      said = said;
+      deleted = λ ws n d a. same ws n d a (checked-0 ipv4 ipv4-shaped ws _ a .0);
+    }

@@ -1,0 +1,4 @@
+pub mod First
+pub mod Links
+pub mod Topped
+pub mod Facts

@@ -1,0 +1,4 @@
+pub mod Search
+pub mod Links
+pub mod Facts
+pub mod Examples
