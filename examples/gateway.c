@@ -2,8 +2,9 @@
  * gateway.c - the firmware's loop, in small
  *
  * Loads a table of rules into a static store, lists what the store
- * holds, deletes the rules that never win, decides frames and counts them
- * by action and by rule.  No heap and no input: it prints gateway.expected.
+ * holds, deletes the rules that never win, says what the worst packet
+ * takes, decides frames and counts them by action and by rule.  No heap and
+ * no input: it prints gateway.expected.
  *
  * On an x86-64 machine, after `make lib`, in the top folder:
  *
@@ -109,6 +110,13 @@ static void address(const char *before, uint32_t a)
 	printf("%s%" PRIu32 ".%" PRIu32 ".%" PRIu32 ".%" PRIu32, before, a >> 24, a >> 16 & 255, a >> 8 & 255, a & 255);
 }
 
+static void record(const char *before, const uint32_t *value)
+{
+	address(before, value[REAMSTORK_DESTINATION]);
+	address(" from ", value[REAMSTORK_SOURCE]);
+	printf(", protocol %" PRIu32 ", ports %" PRIu32 " and %" PRIu32 ", portless %" PRIu32 "\n", value[REAMSTORK_PROTOCOL], value[REAMSTORK_DESTINATION_PORT], value[REAMSTORK_SOURCE_PORT], value[REAMSTORK_PORTLESS]);
+}
+
 /*
  * Says for each rule the least values for which it wins, and deletes those
  * that never win: no frame is decided otherwise without them.  Behind a
@@ -129,9 +137,7 @@ static uint32_t prune(void)
 			if (reamstork_delete(store, store_len, r.number) != REAMSTORK_DONE)
 				break;
 		} else {
-			address(" wins first to ", f.value[REAMSTORK_DESTINATION]);
-			address(" from ", f.value[REAMSTORK_SOURCE]);
-			printf(", protocol %" PRIu32 ", ports %" PRIu32 " and %" PRIu32 ", portless %" PRIu32 "\n", f.value[REAMSTORK_PROTOCOL], f.value[REAMSTORK_DESTINATION_PORT], f.value[REAMSTORK_SOURCE_PORT], f.value[REAMSTORK_PORTLESS]);
+			record(" wins first to ", f.value);
 			place++;
 		}
 	}
@@ -140,7 +146,8 @@ static uint32_t prune(void)
 
 int main(void)
 {
-	uint32_t counts[ACTIONS] = { 0 }, unreadable = 0, cut = 0, worst = 0;
+	uint32_t counts[ACTIONS] = { 0 }, unreadable = 0, cut = 0, most = 0;
+	reamstork_most worst;
 
 	if (reamstork_start_with(store, store_len, 1920, FORWARD) != REAMSTORK_DONE)
 		return 1;
@@ -154,6 +161,17 @@ int main(void)
 		return 1;	/* the store fails the check */
 	printf("cells in use: %" PRIu32 "\n", reamstork_cells(store, store_len).cells);
 
+	/*
+	 * The sheet's number, for the table as it is now: no frame takes more.
+	 * It may be that none takes as many, since values that no header gives
+	 * count too: here those of a packet without ports, to port 22.
+	 */
+	worst = reamstork_worst(store, store_len);
+	if (worst.answer != REAMSTORK_DONE)
+		return 1;
+	printf("worst: %" PRIu32 " reads", worst.reads);
+	record(", first to ", worst.value);
+
 	for (size_t i = 0; i < sizeof frames / sizeof frames[0]; i++) {
 		reamstork_found f = reamstork_lookup_packet_tally(store, store_len, frames[i].bytes, frames[i].len, &tallies);
 
@@ -165,8 +183,8 @@ int main(void)
 			return 1;	/* the words were damaged, load them again; 13 cannot come, the record began clear and no rule was deleted */
 		else
 			counts[f.action]++;
-		if (f.reads > worst)
-			worst = f.reads;
+		if (f.reads > most)
+			most = f.reads;
 		printf("frame %zu: answer %" PRIu32 ", rule %" PRIu32 ", reads %" PRIu32 "\n", i + 1, f.answer, f.rule, f.reads);
 	}
 	for (int a = 0; a < ACTIONS; a++)
@@ -174,6 +192,6 @@ int main(void)
 	for (int i = 0; i < REAMSTORK_PLACES; i++)
 		if (tallies.key[i] <= REAMSTORK_DEFAULT)
 			printf("rule %" PRIu32 ": %" PRIu32 " packets, %" PRIu32 " bytes\n", tallies.key[i], tallies.packets[i], tallies.bytes[i]);
-	printf("unreadable: %" PRIu32 "\ncut short: %" PRIu32 "\nmost reads: %" PRIu32 "\n", unreadable, cut, worst);
-	return 0;
+	printf("unreadable: %" PRIu32 "\ncut short: %" PRIu32 "\nmost reads: %" PRIu32 "\n", unreadable, cut, most);
+	return most > worst.reads;
 }

@@ -135,12 +135,13 @@
  * the rules whose ranges hold its earlier values.  The count of reads is a
  * function of the table and the packet.  With n rules besides the default
  * it is at most 2 n + 1 in each field, and at most 7 n + 6 in all: both
- * are proved.
+ * are proved.  reamstork_worst gives the greatest count of one table.
  *
  * A lookup touches the cells that it counts and six words besides; this
  * is measured, not proved.  check goes over all cells of the store, and so
- * do insert, delete, read, rule_at, cells and dead, which run it first;
- * insert and delete then build the tree anew, and dead goes through it.
+ * do insert, delete, read, rule_at, cells, dead and worst, which run it
+ * first; insert and delete then build the tree anew, and dead and worst go
+ * through it.
  *
  * The words of a store are a function of c, the default's action and the
  * rules.  Two stores with the same of these have the same words, bit for
@@ -190,9 +191,9 @@ extern "C" {
  * version than this, may be no store of this one: run reamstork_check
  * before the first lookup in them.
  */
-#define REAMSTORK_VERSION          "3.1"
+#define REAMSTORK_VERSION          "3.2"
 #define REAMSTORK_VERSION_MAJOR    3
-#define REAMSTORK_VERSION_MINOR    1
+#define REAMSTORK_VERSION_MINOR    2
 
 /*
  * LIMITS
@@ -255,6 +256,7 @@ typedef struct { uint32_t answer, rule, action, reads; } reamstork_found;
 typedef struct { uint32_t answer, number, action, low[6], high[6]; } reamstork_rule;
 typedef struct { uint32_t answer, cells; } reamstork_count;
 typedef struct { uint32_t answer, dead, value[6]; } reamstork_life;
+typedef struct { uint32_t answer, reads, value[6]; } reamstork_most;
 typedef struct { uint32_t answer, low, high; } reamstork_range;
 typedef struct { uint32_t key[65], packets[65], bytes[65]; } reamstork_tallies;
 typedef struct { uint32_t number, action, low[6], high[6]; } reamstork_record;
@@ -376,8 +378,8 @@ uint32_t reamstork_delete(uint32_t *words, size_t len, uint32_t number);
  *   9  otherwise
  *
  * Every store that an accepted start, insert or delete leaves passes.
- * Changes no word.  insert, delete, read, rule_at, cells and dead run it
- * first.
+ * Changes no word.  insert, delete, read, rule_at, cells, dead and worst
+ * run it first.
  *
  * The check cannot see a change that makes the words another store, such
  * as another action, or another number that leaves the numbers rising.
@@ -490,6 +492,40 @@ reamstork_count reamstork_cells(const uint32_t *words, size_t len);
  * finds the record, at most once.
  */
 reamstork_life reamstork_dead(const uint32_t *words, size_t len, uint32_t number);
+
+/*
+ * FIND THE WORST PACKET OF A TABLE
+ *
+ * For a timing sheet.  The bound 7 n + 6 holds for any table of n rules,
+ * and a table can stay far below it.  This gives the worst case of the one
+ * table that the store holds.
+ *
+ *   9  the store fails the check
+ *   0  done: reads is the greatest count of reads that reamstork_lookup
+ *      reports for any six values within their tops, and value has the six
+ *      values, in the order of the fields, of the least record for which it
+ *      reports that many
+ *
+ * Changes no word.  So no lookup in this store reads more cells than reads,
+ * by values or by packet, and the lookup of value reads exactly that many.
+ * The default alone gives 6 and six zeros.
+ *
+ *     reamstork_most m = reamstork_worst(words, len);
+ *     if (m.answer == REAMSTORK_DONE)
+ *         worst_time = fixed_time + m.reads * time_of_a_read;
+ *
+ * Of two records the lesser is the one with the lesser value in the first
+ * field in which they differ.  Values that no header gives count like any
+ * others, such as protocol 1 with ports: so it may be that no packet ever
+ * takes that many reads, but none takes more.
+ *
+ * The answer is a function of the rules' ranges alone.  Numbers, actions,
+ * c and the order of loading play no part.  It holds for the rules that are
+ * there: after an insert or a delete ask again.
+ *
+ * Each call runs the check once, and then goes through the tree once.
+ */
+reamstork_most reamstork_worst(const uint32_t *words, size_t len);
 
 /*
  * LOOK UP SIX VALUES

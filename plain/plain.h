@@ -22,6 +22,7 @@ reamstork_rule plain_read(const uint32_t *words, size_t len, uint32_t number);
 reamstork_rule plain_rule_at(const uint32_t *words, size_t len, uint32_t place);
 reamstork_count plain_cells(const uint32_t *words, size_t len);
 reamstork_life plain_dead(const uint32_t *words, size_t len, uint32_t number);
+reamstork_most plain_worst(const uint32_t *words, size_t len);
 reamstork_found plain_lookup(const uint32_t *words, size_t len, uint32_t destination, uint32_t source, uint32_t protocol, uint32_t destination_port, uint32_t source_port, uint32_t portless);
 reamstork_found plain_lookup_packet(const uint32_t *words, size_t len, const uint8_t *packet, size_t packet_len);
 void plain_tallies_clear(reamstork_tallies *tallies);

@@ -3,7 +3,7 @@
  *
  *     speed                          times, as a table
  *     speed count NAME CALL WHICH    lookups for callgrind, see speed.sh
- *     speed edit NAME CALL RULES CELLS BUDGET OVERLAP    one check, life or edit
+ *     speed edit NAME CALL RULES CELLS BUDGET OVERLAP    one check, search or edit
  *
  * Both run in turns over the same words, with the same rules and packets,
  * so that neither has better memory or a quieter moment.  A figure is the
@@ -25,6 +25,7 @@ struct library {
 	uint32_t (*delete)(uint32_t *, size_t, uint32_t);
 	uint32_t (*check)(const uint32_t *, size_t);
 	reamstork_life (*dead)(const uint32_t *, size_t, uint32_t);
+	reamstork_most (*worst)(const uint32_t *, size_t);
 	reamstork_found (*lookup)(const uint32_t *, size_t, uint32_t, uint32_t, uint32_t, uint32_t, uint32_t, uint32_t);
 	reamstork_found (*lookup_packet)(const uint32_t *, size_t, const uint8_t *, size_t);
 	reamstork_found (*tally)(const uint32_t *, size_t, const uint8_t *, size_t, reamstork_tallies *);
@@ -32,8 +33,8 @@ struct library {
 };
 
 static const struct library both[2] = {
-	{ reamstork_insert, reamstork_delete, reamstork_check, reamstork_dead, reamstork_lookup, reamstork_lookup_packet, reamstork_lookup_packet_tally, reamstork_scan },
-	{ plain_insert, plain_delete, plain_check, plain_dead, plain_lookup, plain_lookup_packet, plain_lookup_packet_tally, plain_scan },
+	{ reamstork_insert, reamstork_delete, reamstork_check, reamstork_dead, reamstork_worst, reamstork_lookup, reamstork_lookup_packet, reamstork_lookup_packet_tally, reamstork_scan },
+	{ plain_insert, plain_delete, plain_check, plain_dead, plain_worst, plain_lookup, plain_lookup_packet, plain_lookup_packet_tally, plain_scan },
 };
 
 static _Alignas(64) uint32_t words[REAMSTORK_WORDS(65536)];
@@ -193,6 +194,17 @@ static void lives(const struct library *l, double *took)
 	}
 }
 
+static void worst_packet(const struct library *l, double *took)
+{
+	enum { TIMES = 4 };
+	double from = now();
+
+	for (int i = 0; i < TIMES; i++)
+		if (l->worst(words, len).answer != 0)
+			fail("the worst packet is refused");
+	took[0] = (now() - from) / TIMES;
+}
+
 static int rising(const void *a, const void *b)
 {
 	double x = *(const double *)a, y = *(const double *)b;
@@ -266,6 +278,33 @@ static void measure_lives(void)
 	printf("  %-24s %12.2f    %12.2f\n", "dead, worst over a check", worst[0] / one[0], worst[1] / one[1]);
 }
 
+/*
+ * What the worst packet takes, and the same over a check, which is a part of
+ * the call: in each round each side's call over its own check just before
+ * it, and of these the median.
+ */
+static void measure_worst(void)
+{
+	double took[2][ROUNDS], over[2][ROUNDS], ratio[ROUNDS], one, t;
+
+	for (int i = -1; i < ROUNDS; i++) {
+		for (int j = 0; j < 2; j++) {
+			int which = (i + j) & 1;
+
+			check(&both[which], &one);
+			worst_packet(&both[which], &t);
+			if (i >= 0) {
+				took[which][i] = t;
+				over[which][i] = t / one;
+			}
+		}
+		if (i >= 0)
+			ratio[i] = took[0][i] / took[1][i];
+	}
+	printf("  %-24s %12.1f ns %12.1f ns %8.2f\n", "worst", median(took[0]), median(took[1]), median(ratio));
+	printf("  %-24s %12.2f    %12.2f\n", "worst, over a check", median(over[0]), median(over[1]));
+}
+
 /* A table in the words, and packets for it. */
 static void draw_sample(uint32_t n, uint32_t c, uint32_t budget, int overlap)
 {
@@ -301,6 +340,12 @@ static void same_life(reamstork_life a, reamstork_life b)
 		fail("the lives of a rule differ");
 }
 
+static void same_most(reamstork_most a, reamstork_most b)
+{
+	if (a.answer != 0 || memcmp(&a, &b, sizeof a) != 0)
+		fail("the worst packets differ");
+}
+
 static void same_winner(reamstork_found a, reamstork_winner b)
 {
 	if (b.answer != 0 || a.rule != b.rule || a.action != b.action)
@@ -312,6 +357,7 @@ static void describe(uint32_t n, uint32_t c)
 {
 	uint32_t most = 0, least = UINT32_MAX, dead = 0;
 	uint64_t reads = 0;
+	reamstork_most worst = plain_worst(words, len);
 
 	for (int i = 0; i < PACKETS; i++) {
 		const uint32_t *v = values[i];
@@ -335,7 +381,10 @@ static void describe(uint32_t n, uint32_t c)
 		same_life(f, reamstork_dead(words, len, number));
 		dead += f.dead;
 	}
-	printf("%u rules, c = %u, %u cells in use; reads %u to %u, mean %.1f; %u dead\n", n, c, plain_cells(words, len).cells, least, most, (double)reads / PACKETS, dead);
+	same_most(worst, reamstork_worst(words, len));
+	if (most > worst.reads)
+		fail("a packet reads more than the worst");
+	printf("%u rules, c = %u, %u cells in use; reads %u to %u, mean %.1f, worst of any values %u; %u dead\n", n, c, plain_cells(words, len).cells, least, most, (double)reads / PACKETS, worst.reads, dead);
 }
 
 static void times(uint32_t n, uint32_t c, uint32_t budget, int overlap)
@@ -355,6 +404,7 @@ static void times(uint32_t n, uint32_t c, uint32_t budget, int overlap)
 	measure(by_scan, 1, &names[6]);
 	measure(edits, 2, edit_names);
 	measure_lives();
+	measure_worst();
 	printf("\n");
 	fflush(stdout);
 }
@@ -406,7 +456,8 @@ static int lookups(const char *name, const char *call, const char *which)
 
 /*
  * For callgrind too: one check, insert or delete, of the rule in the middle;
- * the life of that rule; or none, for what drawing the sample takes.
+ * the life of that rule; the worst packet; or none, for what drawing the
+ * sample takes.
  */
 static int one_edit(const char *name, const char *call, char **sample)
 {
@@ -423,6 +474,8 @@ static int one_edit(const char *name, const char *call, char **sample)
 		wrong = l->check(words, len);
 	else if (strcmp(call, "dead") == 0)
 		wrong = l->dead(words, len, r->number).answer;
+	else if (strcmp(call, "worst") == 0)
+		wrong = l->worst(words, len).answer;
 	else if (strcmp(call, "delete") == 0)
 		wrong = l->delete(words, len, r->number);
 	else

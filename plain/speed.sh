@@ -36,7 +36,8 @@ by round, the library's time over plain C's, and the median of these is shown:
 so it need not be the quotient of the two times beside it. Below 1 the library
 is quicker.
 Dead is one call for each rule and the default. Its ratios, and its times over
-that of a check by the same side, are quotients of the medians.
+that of a check by the same side, are quotients of the medians. Worst over a
+check is made round by round.
 Cold caches: 8 MiB of other reads before each lookup, so that code and words
 come from far away. Cold words only: the code has run once on another store.
 On a quiet machine two copies of the same code come out within 0.05, cold ones
@@ -110,7 +111,10 @@ one() {
 for sample in '10 1920 400 0' '60 1920 1900 0' '60 65536 60000 1'; do
 	echo
 	echo "Instructions of one call, $sample (rules, c, cells at most, overlapping)"
-	for call in check dead insert delete; do
+	for call in check dead worst insert delete; do
 		echo "$call $(one reamstork $call "$sample") $(one plain $call "$sample")"
-	done | awk '{ printf "  %-24s %12d    %12d    %8.2f\n", $1, $2, $3, $2 / $3 }'
+	done | awk '
+		{ printf "  %-24s %12d    %12d    %8.2f\n", $1, $2, $3, $2 / $3 }
+		$1 == "check" { library = $2; plain = $3 }
+		$1 == "worst" { printf "  %-24s %12.2f    %12.2f\n", "worst, over a check", $2 / library, $3 / plain }'
 done

@@ -110,6 +110,11 @@ static void dead(void)
 	answer |= reamstork_dead(words, len, rules[20].number).answer;
 }
 
+static void worst(void)
+{
+	answer |= reamstork_worst(words, len).answer;
+}
+
 static void cells(void)
 {
 	answer |= reamstork_cells(words, len).answer;
@@ -186,6 +191,7 @@ int main(void)
 	say("reamstork_rule_at", used(rule_at) - base);
 	say("reamstork_cells", used(cells) - base);
 	say("reamstork_dead", used(dead) - base);
+	say("reamstork_worst", used(worst) - base);
 	say("reamstork_lookup", used(lookup) - base);
 	say("reamstork_lookup_packet", used(lookup_packet) - base);
 	say("reamstork_lookup_packet_tally", used(lookup_packet_tally) - base);

@@ -13,7 +13,7 @@ from pathlib import Path
 
 from loads import (BASE, CELLS, CHECK, CLEAR, DEAD, DELETE, DIFFERENCE, FILL, GET, INSERT, LOOKUP,
                    LOOKUP_PACKET, LOOKUP_TALLY, PLACES, PREFIX, READ, RULE_AT, SCAN, START,
-                   START_WITH, Call)
+                   START_WITH, WORST, Call)
 
 ROOT = Path(__file__).resolve().parent.parent
 # valgrind runs programs of its own machine alone: the archive is that for this one
@@ -21,7 +21,7 @@ ARM = platform.machine() == 'aarch64'
 ARCHIVE = ROOT / ('target/aarch64' if ARM else 'target/staticlib') / 'libreamstork.a'
 # the words that each call gives
 GIVEN = {START: 1, START_WITH: 1, INSERT: 1, DELETE: 1, CHECK: 1, READ: 15,
-         RULE_AT: 15, DEAD: 8, CELLS: 2, LOOKUP: 4,
+         RULE_AT: 15, DEAD: 8, WORST: 8, CELLS: 2, LOOKUP: 4,
          LOOKUP_PACKET: 4, LOOKUP_TALLY: 4 + 3 * PLACES, SCAN: 3, PREFIX: 3, CLEAR: 0,
          DIFFERENCE: 1}
 # else valgrind leaves out a load whose value is not used, and on Arm no atomic store succeeds

@@ -14,18 +14,19 @@ from collections import Counter
 
 RESET, MAKE, LEND, SET, GET, DIGEST, SAME, COPY = range(8)
 (START, START_WITH, INSERT, DELETE, CHECK, READ, CELLS, LOOKUP, PACKET, PREFIX, SCAN,
- RULE_AT, DEAD) = range(16, 29)
+ RULE_AT, DEAD, WORST) = range(16, 30)
 TALLY, CLEAR, DIFFERENCE, RECORDS = range(32, 36)
 RECORD = 3 * 65
 NAMES = {RESET: 'reset', MAKE: 'make', LEND: 'lend', SET: 'set', GET: 'get', DIGEST: 'digest',
          SAME: 'same', COPY: 'copy', START: 'start', START_WITH: 'start_with', INSERT: 'insert',
          DELETE: 'delete', CHECK: 'check', READ: 'read', CELLS: 'cells', LOOKUP: 'lookup',
          PACKET: 'lookup_packet', PREFIX: 'prefix', SCAN: 'scan', RULE_AT: 'rule_at',
-         DEAD: 'dead', TALLY: 'lookup_packet_tally',
+         DEAD: 'dead', WORST: 'worst', TALLY: 'lookup_packet_tally',
          CLEAR: 'tallies_clear', DIFFERENCE: 'tally_difference', RECORDS: 'scan of records'}
 SIZES = {RESET: 0, MAKE: 0, LEND: 0, SET: 0, DIGEST: 2, SAME: 1, COPY: 0, START: 1, START_WITH: 1,
          INSERT: 1, DELETE: 1, CHECK: 1, READ: 15, CELLS: 2, LOOKUP: 4, PACKET: 4, PREFIX: 3,
-         SCAN: 66, RULE_AT: 15, DEAD: 8, TALLY: 4 + RECORD, CLEAR: RECORD, DIFFERENCE: 1, RECORDS: 3}
+         SCAN: 66, RULE_AT: 15, DEAD: 8, WORST: 8, TALLY: 4 + RECORD, CLEAR: RECORD, DIFFERENCE: 1,
+         RECORDS: 3}
 EDITS = (MAKE, LEND, SET, COPY, START, START_WITH, INSERT, DELETE)
 GUARDED, END_AT_WALL, FRONT_AT_WALL = range(3)
 NO_DIFFERENCE = 0xFFFFFFFF
@@ -177,6 +178,9 @@ class Talk:
     def dead(self, store, number, want=None):
         self.queue_command(DEAD, (store, number), want)
 
+    def worst(self, store, want=None):
+        self.queue_command(WORST, (store,), want)
+
     def cells(self, store, want=None):
         self.queue_command(CELLS, (store,), want)
 
@@ -237,7 +241,7 @@ class Talk:
             got = PACKERS[size].unpack_from(results, at) if size in PACKERS else array(
                 'I', results[at:at + 4 * size])
             at += 4 * size
-            if START <= op <= PREFIX or op in (RULE_AT, DEAD, TALLY, RECORDS):
+            if START <= op <= PREFIX or op in (RULE_AT, DEAD, WORST, TALLY, RECORDS):
                 self.answers[got[0]] += 1
             if want is None:
                 answers.append(got)

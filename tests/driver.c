@@ -44,6 +44,7 @@ enum {
   RESET = 0, MAKE = 1, LEND = 2, SET = 3, GET = 4, DIGEST = 5, SAME = 6, COPY = 7,
   START = 16, START_WITH = 17, INSERT = 18, DELETE = 19, CHECK = 20, READ = 21,
   CELLS = 22, LOOKUP = 23, PACKET = 24, PREFIX = 25, SCAN = 26, RULE_AT = 27, DEAD = 28,
+  WORST = 29,
   TALLY = 32, CLEAR = 33, DIFFERENCE = 34, RECORDS = 35
 };
 
@@ -353,6 +354,12 @@ static void look(uint32_t op) {
     out[0] = life.answer, out[1] = life.dead;
     memcpy(out + 2, life.value, sizeof life.value);
   }
+  if (op == WORST) {
+    reamstork_most most = reamstork_worst(s->words, s->lent);
+    uint32_t *out = give(2 + REAMSTORK_FIELDS);
+    out[0] = most.answer, out[1] = most.reads;
+    memcpy(out + 2, most.value, sizeof most.value);
+  }
   if (op == CELLS) {
     reamstork_count count = reamstork_cells(s->words, s->lent);
     uint32_t *out = give(2);
@@ -437,7 +444,7 @@ static void run_batch(void) {
     else if (op == CLEAR) call_clear();
     else if (op == DIFFERENCE) call_difference();
     else if (op == RECORDS) call_records();
-    else if ((op >= CHECK && op <= DEAD) || op == TALLY) look(op);
+    else if ((op >= CHECK && op <= WORST) || op == TALLY) look(op);
     else stop("no such command");
   }
   for (size_t i = 0; i < STORES; i++) compare_late(&stores[i]);

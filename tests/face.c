@@ -1,4 +1,4 @@
-/* What the header has beside the calls: the names of the fields, the texts of the answers, a rule that was read handed to a scan and to an insert, and a table listed and loaded again; its examples of packets that are refused; and rules that never win.
+/* What the header has beside the calls: the names of the fields, the texts of the answers, a rule that was read handed to a scan and to an insert, and a table listed and loaded again; its examples of packets that are refused; rules that never win; and the worst packet of a table.
 
        face answers      a line for each answer, number and text
        face version      the version, and the same from its two numbers
@@ -197,6 +197,65 @@ static int lives(void) {
   return 0;
 }
 
+static int same_most(reamstork_most m, uint32_t answer, uint32_t reads, const uint32_t *value) {
+  return m.answer == answer && m.reads == reads && memcmp(m.value, value, sizeof m.value) == 0;
+}
+
+static uint32_t taken(const uint32_t *v) {
+  return reamstork_lookup(one, len, v[REAMSTORK_DESTINATION], v[REAMSTORK_SOURCE], v[REAMSTORK_PROTOCOL], v[REAMSTORK_DESTINATION_PORT], v[REAMSTORK_SOURCE_PORT], v[REAMSTORK_PORTLESS]).reads;
+}
+
+/* The worst packet of a table, as the header tells of it. */
+static int worsts(void) {
+  const uint32_t zeros[REAMSTORK_FIELDS] = { 0 }, low[REAMSTORK_FIELDS] = { 10, 20, 30, 40, 50, 0 }, high[REAMSTORK_FIELDS] = { 15, 26, 37, 48, 59, 0 };
+  const uint32_t tops[REAMSTORK_FIELDS] = { REAMSTORK_TOP_ADDRESS, REAMSTORK_TOP_ADDRESS, REAMSTORK_TOP_PROTOCOL, REAMSTORK_TOP_PORT, REAMSTORK_TOP_PORT, REAMSTORK_TOP_PORTLESS };
+  /* within the rule up to field 5, and in field 6 above its end 0: no header gives these values */
+  const uint32_t inside[REAMSTORK_FIELDS] = { 10, 20, 30, 40, 50, 1 };
+  uint32_t lesser[REAMSTORK_FIELDS];
+
+  SURE(sizeof(reamstork_most) == 32 && offsetof(reamstork_most, answer) == 0 && offsetof(reamstork_most, reads) == 4 && offsetof(reamstork_most, value) == 8);
+  SURE(reamstork_start(one, len, 100) == REAMSTORK_DONE);
+  SURE(same_most(reamstork_worst(one, len), REAMSTORK_DONE, 6, zeros) && taken(zeros) == 6);
+
+  /* a rule with full ranges has no end but the tops */
+  SURE(reamstork_insert(one, len, 9, 90, zeros, tops) == REAMSTORK_DONE);
+  SURE(same_most(reamstork_worst(one, len), REAMSTORK_DONE, 6, zeros));
+
+  /* one that is narrow in every field: two reads in each, below 7 n + 6 for n = 2 */
+  SURE(reamstork_insert(one, len, 7, 70, low, high) == REAMSTORK_DONE);
+  SURE(same_most(reamstork_worst(one, len), REAMSTORK_DONE, 12, inside) && taken(inside) == 12 && 12 <= 7 * 2 + 6);
+  for (int field = 0; field < REAMSTORK_FIELDS; field++) {
+    memcpy(lesser, tops, sizeof lesser);
+    memcpy(lesser, inside, (size_t)field * sizeof lesser[0]);
+    lesser[field] = inside[field] - 1;
+    SURE(taken(lesser) < 12);
+  }
+  SURE(taken(tops) <= 12 && taken(low) < 12 && taken(high) < 12);
+
+  /* after an edit it is another one; numbers and actions play no part */
+  SURE(reamstork_delete(one, len, 7) == REAMSTORK_DONE);
+  SURE(same_most(reamstork_worst(one, len), REAMSTORK_DONE, 6, zeros));
+  SURE(reamstork_insert(one, len, 0, 1, low, high) == REAMSTORK_DONE);
+  SURE(same_most(reamstork_worst(one, len), REAMSTORK_DONE, 12, inside));
+
+  /* up to one below the top: the worst packet stands at the top itself */
+  const uint32_t most[REAMSTORK_FIELDS] = { REAMSTORK_TOP_ADDRESS - 1, REAMSTORK_TOP_ADDRESS, REAMSTORK_TOP_PROTOCOL, REAMSTORK_TOP_PORT, REAMSTORK_TOP_PORT, REAMSTORK_TOP_PORTLESS };
+  const uint32_t top[REAMSTORK_FIELDS] = { REAMSTORK_TOP_ADDRESS };
+  SURE(reamstork_start(one, len, 100) == REAMSTORK_DONE);
+  SURE(reamstork_insert(one, len, 5, 1, zeros, most) == REAMSTORK_DONE);
+  SURE(same_most(reamstork_worst(one, len), REAMSTORK_DONE, 7, top) && taken(top) == 7);
+
+  /* refused with zeros; no word is changed */
+  memcpy(two, one, sizeof one);
+  SURE(same_most(reamstork_worst(one, len - 1), REAMSTORK_BAD_STORE, 0, zeros));
+  one[1024] ^= 1;
+  SURE(same_most(reamstork_worst(one, len), REAMSTORK_BAD_STORE, 0, zeros));
+  one[1024] ^= 1;
+  SURE(same_most(reamstork_worst(one, len), REAMSTORK_DONE, 7, top));
+  SURE(memcmp(one, two, sizeof one) == 0);
+  return 0;
+}
+
 int main(int argc, char **argv) {
   const char *what = argc > 1 ? argv[1] : "";
 
@@ -209,5 +268,5 @@ int main(int argc, char **argv) {
     printf("%s\n%d.%d\n", REAMSTORK_VERSION, REAMSTORK_VERSION_MAJOR, REAMSTORK_VERSION_MINOR);
     return 0;
   }
-  return rules() || packets() || lives();
+  return rules() || packets() || lives() || worsts();
 }

@@ -80,6 +80,7 @@ def question(talk, rng, store, lent, table):
         talk.rule_at(store, place)
     for number in (DEFAULT, rng.choice(table).number, 65536):
         talk.dead(store, number)
+    talk.worst(store)
     for _ in range(4):
         values = values_near(rng, table)
         asked += [(0, values)] * 2
@@ -96,7 +97,8 @@ def question(talk, rng, store, lent, table):
 def judge(results, asked, lent):
     """Judges the answers to one question; says whether the check passed."""
     check, cells = results[0], results[1]
-    reads, lives, lookups = results[2:8], results[8:11], results[11:11 + len(asked)]
+    reads, lives, worst = results[2:8], results[8:11], results[11]
+    lookups = results[12:12 + len(asked)]
     expect(check in ((0,), (9,)), 'the check gave %s' % (check,))
     passed = check == (0,)
     if not passed:
@@ -106,9 +108,12 @@ def judge(results, asked, lent):
                    'read or rule_at gave %s where the check gives 9' % (read,))
         for life in lives:
             expect(life == (9,) + (0,) * 7, 'dead gave %s where the check gives 9' % (life,))
+        expect(worst == (9,) + (0,) * 7, 'worst gave %s where the check gives 9' % (worst,))
     else:
         expect(lives[0][0] == 0 and lives[1][0] in (0, 4) and lives[2] == (1,) + (0,) * 7,
                'dead gave %s in a store that passes' % (lives,))
+        expect(worst[0] == 0 and walk(lent, worst[2:])[::3] == worst[:2],
+               'worst gave %s in a store that passes' % (worst,))
     most = len(TOPS) * max((len(lent) - 1024) // 8, 0)
     for (answer, values), got in zip(asked, lookups):
         if answer:
@@ -117,6 +122,7 @@ def judge(results, asked, lent):
         expect(got == (9, 0, 0, 0) or got[0] == 0 and len(TOPS) <= got[3] <= most,
                'a lookup of %s gave %s' % (values, got))
         expect(got[0] == 0 or not passed, 'a lookup gave 9 where the check gives 0')
+        expect(not passed or got[3] <= worst[1], 'a lookup reads more than the worst')
         want = walk(lent, values)
         expect(got == want, 'a lookup of %s gave %s and the walk %s' % (values, got, want))
     return passed

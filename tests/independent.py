@@ -30,19 +30,21 @@ from portless import (most_reads, port_rule, port_rule_damage, port_tables, requ
                       who_has_ports)
 from records import bench_list, beside, corners, lists
 from tallies import differences, hostile_tallies, tallies, tally_edges
+from worst import (worst_alike, worst_damage, worst_examples, worst_sixty_four, worst_tables,
+                   worst_ties, worst_tops, worst_worlds)
 
 FIXED = [bench_table, starts, any_words_before, every_length, sizes_of_a_walk, sixty_four,
          order_of_refusals, header_grid, seven_before_nine, every_prefix, captures, tally_edges,
          bench_list, corners, port_rule, request_example, who_has_ports, most_reads,
          port_rule_damage, cut_examples, cut_grid, dead_examples, dead_ports, dead_sixty_four,
-         dead_refusals]
+         dead_refusals, worst_examples, worst_ties, worst_tops, worst_sixty_four, worst_damage]
 
 # In this order again and again; the costly ones come seldom.
 RANDOM = [edits, hostile, fit, headers, edits, histories, hostile, garbage, edits, crowd, fit,
           histories, hostile, prefixes, edits, headers, large, hostile, histories, hostile_large,
           mazes, mazes, tallies, differences, tallies, hostile_tallies, lists,
           beside, port_tables, port_rule_damage, port_tables, cuts, hidden, hidden_worlds, hidden,
-          hidden]
+          hidden, worst_tables, worst_worlds, worst_tables, worst_alike]
 
 
 class Run:

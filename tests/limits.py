@@ -31,6 +31,7 @@ def bench_table(talk, rng):
         for row in BENCH_LOOKUPS:
             talk.lookup(store.id, bench_values(row), row[3])
             talk.packet(store.id, packet_of(bench_values(row)), row[3])
+        talk.worst(store.id, (0, 11, address('10.0.0.128'), 0, 17, 5000, 0, 1))
         # the first row's packet as a later fragment and as ICMP, and its values without ports
         first = bench_values(BENCH_LOOKUPS[0])
         talk.packet(store.id, packet_of(first, offset=1), (0, 20, 3, 8))
@@ -129,6 +130,7 @@ def every_length(talk, rng):
         for number, life in ((7, (0,) * 8), (DEFAULT, (0, 1) + (0,) * 6), (8, (4,) + (0,) * 7),
                              (65536, (1,) + (0,) * 7)):
             talk.dead(store.id, number, life if good else (9,) + (0,) * 7)
+        talk.worst(store.id, (0, 6) + (0,) * 6 if good else (9,) + (0,) * 7)
         talk.lookup(store.id, values, (0, 7, 9, 6) if good else (9, 0, 0, 0))
         talk.lookup(store.id, (1, 2, 256, 4, 5, 0), (11, 0, 0, 0))
         talk.packet(store.id, readable, (0, 7, 9, 6) if good else (9, 0, 0, 0))
@@ -145,6 +147,7 @@ def every_length(talk, rng):
         talk.check(walled, 0 if good else 9)
         talk.cells(walled, (0, 6) if good else (9, 0))
         talk.dead(walled, 7, (0,) * 8 if good else (9,) + (0,) * 7)
+        talk.worst(walled, (0, 6) + (0,) * 6 if good else (9,) + (0,) * 7)
         talk.lookup(walled, values, (0, 7, 9, 6) if good else (9, 0, 0, 0))
         talk.packet(walled, readable, (0, 7, 9, 6) if good else (9, 0, 0, 0))
         talk.packet(walled, readable[:23], (14, 0, 0, 0))
@@ -168,6 +171,7 @@ def sizes_of_a_walk(talk, rng):
             talk.lookup(store.id, values, want)
         talk.packet(store.id, packet_of((1, 2, 17, 3, 4)), want)
         talk.check(store.id, 9)
+        talk.worst(store.id, (9,) + (0,) * 7)
         talk.flush()
 
 
@@ -279,7 +283,9 @@ def seven_before_nine(talk, rng):
             talk.lookup(store, (1, 2, 255, 3, 65535, 1), (9, 0, 0, 0))
             talk.check(store, 9)
             talk.cells(store, (9, 0))
+            talk.worst(store, (9,) + (0,) * 7)
             for number in (0, 65535, 65536):
+                talk.dead(store, number, (9,) + (0,) * 7)
                 talk.read(store, number, (9,) + (0,) * 14)
                 talk.rule_at(store, number, (9,) + (0,) * 14)
                 talk.delete(store, number, 9)

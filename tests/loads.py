@@ -16,7 +16,8 @@ FRONT_LOADS = (0, 1, KIND, BEGIN) # what every lookup loads of the front, beside
 RULE_LOADS = (0, 1)            # what it loads of that row: number and action
 FIXED = len(FRONT_LOADS) + len(RULE_LOADS)
 CHECK_LOADS = (2,) + (1,) * 7  # how often at most the check loads each word of a cell
-LINKS = 3                      # the words of a cell that a rule's life takes: end, next and down
+LINKS = 3                      # the words of a cell that a search takes: end, next and down
+NEXT = 1                       # the one of them that leads on in a chain
 RECORD = 14                    # words of a record of a list
 RULE_ENDS = 12                 # words of a rule's ends, low and high, that an insert is lent
 
@@ -24,8 +25,8 @@ RULE_ENDS = 12                 # words of a rule's ends, low and high, that an i
 HEADER_BYTES = {0, 2, 3, 6, 7, 9, *range(12, 20)}
 
 # The commands of trace.c, and where it puts what it lends.
-(FILL, GET, START, START_WITH, INSERT, DELETE, CHECK, READ, RULE_AT, DEAD, CELLS, LOOKUP,
- LOOKUP_PACKET, LOOKUP_TALLY, SCAN, PREFIX, CLEAR, DIFFERENCE) = range(18)
+(FILL, GET, START, START_WITH, INSERT, DELETE, CHECK, READ, RULE_AT, DEAD, WORST, CELLS, LOOKUP,
+ LOOKUP_PACKET, LOOKUP_TALLY, SCAN, PREFIX, CLEAR, DIFFERENCE) = range(19)
 BASE, SIZE = 0x300000000, 0x100000
 ENDS, TALLIES, PACKET, RECORDS, STORE = 0x1000, 0x2000, 0x4000, 0x8000, 0x10000
 STACK = 1 << 20
@@ -235,6 +236,18 @@ def see_dead(call, touched, result):
                    cell, times, most)
 
 
+def see_worst(call, touched, result):
+    """As dead, but the tree is gone through to its end: each of its cells is come by once more
+    than the check does, and where its chain leads on is loaded."""
+    see_dead(call, touched, result)
+    if result[0] == 0:
+        loaded = touched.loaded(STORE, call.len)
+        for cell in range(call.words[FREE]):
+            times = loaded[FRONT + CELL * cell + NEXT]
+            expect(times == CHECK_LOADS[NEXT] + 1, 'it loads the next of cell %d %d times, not %d',
+                   cell, times, CHECK_LOADS[NEXT] + 1)
+
+
 def see(call, touched, result):
     """Raises a Fault where a call does not touch what it should, or more."""
     if call.op == LOOKUP:
@@ -245,5 +258,5 @@ def see(call, touched, result):
         touched.only()
     else:
         {LOOKUP_PACKET: see_packet, LOOKUP_TALLY: see_tally, SCAN: see_scan, CHECK: see_reader,
-         READ: see_reader, RULE_AT: see_reader, DEAD: see_dead,
+         READ: see_reader, RULE_AT: see_reader, DEAD: see_dead, WORST: see_worst,
          CELLS: see_reader}.get(call.op, see_edit)(call, touched, result)

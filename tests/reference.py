@@ -109,6 +109,38 @@ def least_record(rules, number):
     return first(tuple(range(len(rules))), 0)
 
 
+def worst_record(rules):
+    """The greatest sum of reads of any record within the tops, and the least record, compared
+    field by field from field 1, that has it.
+
+    In each field a value is tried only if it is 0, or a rule begins there, or one has ended
+    just before: from there to the next such value the same rules hold all values and the same
+    ends are below them, so the least of them stands for all. What is behind a field depends on
+    the rules that hold the values so far, and on nothing else."""
+    seen = {}
+
+    def worst(held, field):
+        """The greatest sum from this field on over these rules, and the least values."""
+        if field == len(TOPS):
+            return 0, ()
+        known = seen.get((held, field))
+        if known is not None:
+            return known
+        tried = {0} | {rules[i].low[field] for i in held} | {rules[i].high[field] + 1 for i in held}
+        distinct = {end for i in held for end in ends(rules[i], field)}
+        best = 0, ()
+        for value in sorted(value for value in tried if value <= TOPS[field]):
+            holding = tuple(i for i in held if rules[i].low[field] <= value <= rules[i].high[field])
+            reads, rest = worst(holding, field + 1)
+            reads += 1 + sum(end < value for end in distinct)
+            if reads > best[0]:
+                best = reads, (value,) + rest
+        seen[held, field] = best
+        return best
+
+    return worst(tuple(range(len(rules))), 0)
+
+
 def range_fault(low, high):
     """What gets 2: a low end above its high end, a high end above the top, or a
     narrow port range with anything but 0 to 0 in field 6."""
@@ -192,6 +224,12 @@ class Account:
             return (answer, 0) + (0,) * 6
         record = least_record(self.table(), number)
         return (DONE, 1) + (0,) * 6 if record is None else (DONE, 0) + record
+
+    def worst(self):
+        """(answer, reads, six values): the greatest count of reads, and the least record that
+        takes it."""
+        reads, record = worst_record(self.table())
+        return (DONE, reads) + record
 
     def cells(self):
         return (DONE, count_cells(self.table(), MOST_CELLS))

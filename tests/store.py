@@ -46,6 +46,11 @@ class Store:
         self.talk.dead(self.id, number, want)
         return want
 
+    def worst(self):
+        want = self.account.worst()
+        self.talk.worst(self.id, want)
+        return want
+
     def lookup(self, values):
         self.talk.lookup(self.id, values, self.account.lookup(values))
 
@@ -67,6 +72,7 @@ class Store:
             self.rule_at(place)
         self.dead(rng.choice(numbers + [DEFAULT]))
         self.dead(rng.choice((DEFAULT, 65534, 65536, 2 ** 32 - 1, rng.randrange(65535))))
+        self.worst()
         table = account.table()
         for _ in range(lookups):
             values = values_near(rng, table)

@@ -22,8 +22,8 @@
 #define BASE 0x300000000u
 enum { ENDS = 0x1000, TALLIES = 0x2000, PACKET = 0x4000, RECORDS = 0x8000, STORE = 0x10000,
        SIZE = 0x100000, PATTERN = 0xA5 };
-enum { FILL, GET, START, START_WITH, INSERT, DELETE, CHECK, READ, RULE_AT, DEAD, CELLS, LOOKUP,
-       LOOKUP_PACKET, LOOKUP_TALLY, SCAN, PREFIX, CLEAR, DIFFERENCE };
+enum { FILL, GET, START, START_WITH, INSERT, DELETE, CHECK, READ, RULE_AT, DEAD, WORST, CELLS,
+       LOOKUP, LOOKUP_PACKET, LOOKUP_TALLY, SCAN, PREFIX, CLEAR, DIFFERENCE };
 
 extern char __executable_start, end;
 
@@ -80,6 +80,7 @@ static void look(uint32_t op) {
   if (op == READ) { CALL(reamstork_rule, reamstork_read(words, len, a)); }
   if (op == RULE_AT) { CALL(reamstork_rule, reamstork_rule_at(words, len, a)); }
   if (op == DEAD) { CALL(reamstork_life, reamstork_dead(words, len, a)); }
+  if (op == WORST) { CALL(reamstork_most, reamstork_worst(words, len)); }
   if (op == CELLS) { CALL(reamstork_count, reamstork_cells(words, len)); }
 }
 

@@ -19,8 +19,10 @@ records and lists. Of each call is seen (loads.py):
   once, up to the one that is held, and writes the one place that counts.
 - A scan loads words of every record of its list, no more than the list has, and touches
   nothing else that could be lent.
-- Dead goes over the cells once for the check, and at most once through the tree.
-- Check, read, rule_at, dead and cells write nothing; nor does a start or an edit that is refused.
+- Dead and worst go over the cells once for the check. Then dead goes at most once through the
+  tree, and worst once.
+- Check, read, rule_at, dead, worst and cells write nothing; nor does a start or an edit that is
+  refused.
 - No call touches a word behind its store or in front of it, nor any memory but what
   it was lent, its stack, and for loads the program's constants.
 
@@ -37,7 +39,7 @@ from collections import Counter
 from calls import ARCHIVE, Program, Script, cannot
 from loads import (BEGIN, CELL, CELLS, CHECK, CLEAR, DEAD, DELETE, DIFFERENCE, FRONT, INSERT,
                    LOOKUP, LOOKUP_PACKET, LOOKUP_TALLY, PLACES, PREFIX, READ, RULE_AT, SCAN, START,
-                   START_WITH, Fault, Touched, see)
+                   START_WITH, WORST, Fault, Touched, see)
 from reference import DEFAULT, LEAST_CELLS, TOPS, Rule, default_rule
 from tables import World, packet_of, random_packet, values_above, values_near
 
@@ -46,7 +48,7 @@ CALLS = {
     START: ('start', {0, 8}), START_WITH: ('start_with', {0, 8}),
     INSERT: ('insert', {0, 1, 2, 3, 5, 6, 9}), DELETE: ('delete', {0, 1, 4, 9}),
     CHECK: ('check', {0, 9}), READ: ('read', {0, 1, 4, 9}), RULE_AT: ('rule_at', {0, 4, 9}),
-    DEAD: ('dead', {0, 1, 4, 9}), CELLS: ('cells', {0, 9}),
+    DEAD: ('dead', {0, 1, 4, 9}), WORST: ('worst', {0, 9}), CELLS: ('cells', {0, 9}),
     LOOKUP: ('lookup', {0, 9, 11}), LOOKUP_PACKET: ('lookup_packet', {0, 7, 9, 14}),
     LOOKUP_TALLY: ('lookup_packet_tally', {0, 7, 9, 13, 14}), SCAN: ('scan', {0, 11}),
     PREFIX: ('prefix', {0, 10}), CLEAR: ('tallies_clear', set()),
@@ -133,6 +135,7 @@ def lookups(script, rng, rules, count):
 def readers(script, rng, rules):
     script.call(CHECK)
     script.call(CELLS)
+    script.call(WORST)
     for number in (rng.choice(rules).number, rng.randrange(65535), 65536):
         script.call(READ, number)
         script.call(DEAD, number)

@@ -20,4 +20,5 @@ pub mod Named
 pub mod Scan
 pub mod Portless
 pub mod Dead
+pub mod Worst
 pub mod Shown

@@ -10,6 +10,7 @@ use Rattle.demands.specs.Tally.{Tallied}
 use Rattle.demands.specs.Scan.{Scan}
 use Rattle.demands.specs.Portless.{Portless}
 use Rattle.demands.specs.Dead.{Dead}
+use Rattle.demands.specs.Worst.{Worst}
 use Rattle.demands.proofs.Demand1.{demand1}
 use Rattle.demands.proofs.Demand2.{demand2}
 use Rattle.demands.proofs.Demand3.{demand3}
@@ -19,6 +20,7 @@ use Rattle.demands.proofs.Tallied.{tallied}
 use Rattle.demands.proofs.Scan.{scanned}
 use Rattle.demands.proofs.Portless.{portless}
 use Rattle.demands.proofs.Dead.{dead}
+use Rattle.demands.proofs.Worst.{worst}
 
-pub shown : Demand1 × Demand2 × Demand3 × Check ipv4 × StarredCalls × Tallied × Scan × Portless × Dead
-shown = (demand1, demand2, demand3, check ipv4 ipv4-shaped, bench, tallied, scanned, portless, dead)
+pub shown : Demand1 × Demand2 × Demand3 × Check ipv4 × StarredCalls × Tallied × Scan × Portless × Dead × Worst
+shown = (demand1, demand2, demand3, check ipv4 ipv4-shaped, bench, tallied, scanned, portless, dead, worst)

@@ -1,9 +1,9 @@
 -- The place of a number that stands, and what the search over the words of a store that passes says of its table.
 -- Assumes nothing.
-use mathlib.Core.Path.{_≡_, refl, sym, ap, ap₂, _∙_}
+use mathlib.Core.Path.{_≡_, refl, sym, ap, _∙_}
 use mathlib.Core.Bool.{Bool, true, false}
-use mathlib.Core.List.{List, [], _∷_}
-use Prim.Native.Nat.{ℕ, zero, suc, _+_, _-_, _*_, _%_, _≤_, _<_}
+use mathlib.Core.List.{List}
+use Prim.Native.Nat.{ℕ, zero, suc, _+_, _-_, _*_, _≤_, _<_}
 use native.Mathlib.Omega.{arith}
 use native.Mathlib.Numerals.{add-one}
 use lib.Dec.{ltb, eqb}
@@ -21,10 +21,11 @@ use Rattle.layout.proofs.Parts.{part-slice}
 use Rattle.layout.proofs.Sound.{sound, Roomy}
 use Rattle.layout.proofs.Passed.{sound-within, sound-room}
 use Rattle.search.specs.Search.{most, wins, firstWon}
-use Rattle.search.proofs.First.{Fits, first-fits}
+use Rattle.search.proofs.First.{first-fits}
 use Rattle.search.proofs.Topped.{topped-of}
+use Rattle.search.proofs.Written.{cut-fits}
 use Rattle.search.specs.Links.{treeIn, isPlace, recordIn}
-use Rattle.reach.specs.Reach.{cut, Reached}
+use Rattle.reach.specs.Reach.{Reached}
 use Rattle.reach.proofs.Steps.{most-one}
 use Rattle.tied.proofs.Places.{words-most, words-first}
 use Rattle.live.specs.Live.{life, lifeOf, Standing, rowOf, placeOf}
@@ -80,13 +81,6 @@ apart : (w i j : ℕ) → 0 < w → w * i ≡ w * j → i ≡ j
 apart w i j p e = by-test (ltb i j)
     (λ z. absurd (omega (arith, row-ends w i j (ltb-true i j z))))
     (λ z. by-test (ltb j i) (λ y. absurd (omega (arith, row-ends w j i (ltb-true j i y)))) (λ y. omega (arith, ltb-false i j z, ltb-false j i y)))
-
--- values that fit tops which are words are words, so that nothing of them is cut
-cut-fits : (ts vs : List ℕ) → ((i : ℕ) → getD ts i 0 ≤ 4294967295) → Fits ts vs → cut vs ≡ vs
-cut-fits [] [] h f = refl
-cut-fits [] (v ∷ vs) h f = absurd f
-cut-fits (t ∷ ts) [] h f = absurd f
-cut-fits (t ∷ ts) (v ∷ vs) h f = let z : v % 4294967296 ≡ v = omega (arith, f .0, h 0) in ap₂ _∷_ z (cut-fits ts vs (λ i. h (suc i)) (f .1))
 
 -- A NUMBER THAT STANDS
 module _ (k : Kind) (s : Shaped k) (ws : List ℕ) (n : ℕ) (f : Standing k ws n) where

@@ -3,23 +3,24 @@
 use mathlib.Core.Path.{_≡_, refl, sym, ap, _∙_}
 use mathlib.Core.Logic.{_⊎_, ⊎-elim}
 use mathlib.Core.Bool.{Bool, true, false}
-use mathlib.Core.List.{List, [], _∷_, _++_, append-nil}
+use mathlib.Core.List.{List, _∷_}
 use Prim.Native.Nat.{ℕ, suc, _+_, _-_, _*_, _%_, _≤_, _<_}
 use native.Mathlib.Omega.{arith}
 use native.Mathlib.Nat.{add-zero, sub-zero}
 use native.Mathlib.Numerals.{add-one}
 use lib.Dec.{leb, eqb}
-use lib.ListN.{getD, length, set, drop-of-length-le}
-use borrow.Rule.Slice.PartMut.{midOf, postOf, putMid, put-same, post-is}
+use lib.ListN.{getD, length, set}
+use borrow.Rule.Slice.PartMut.{midOf, putMid}
 use borrow.Author.Tests.{eqb-true, eqb-false}
 use Rattle.model.specs.Rules.{Tree, names, stop, loc}
 use Rattle.model.proofs.Tests.{by-test}
 use Rattle.cells.specs.Text.{cellWord}
 use Rattle.search.specs.Search.{most, first}
-use Rattle.search.specs.Links.{chainIn, treeIn, isPlace, recordIn}
+use Rattle.search.specs.Links.{chainIn, treeIn, isPlace, recordIn, cut}
 use Rattle.search.proofs.First.{first-here, first-past, by-place}
+use Rattle.search.proofs.Written.{put-back, set-front, no-values}
 use Rattle.search.proofs.Links.{chain-next, chain-out, chain-spent, tree-chain}
-use Rattle.reach.specs.Reach.{cut, Reached}
+use Rattle.reach.specs.Reach.{Reached}
 
 pub some : (n : ℕ) → (n ≡ 0 → ⊥) → 0 < n
 some n h = omega arith
@@ -30,20 +31,6 @@ unfolding most
 most-one p (names x) = by-test (eqb x p) (λ z. rw z (omega arith)) (λ z. rw z (omega arith))
 most-one p stop = omega arith
 most-one p (loc e u t) = by-test (leb (most 0 (isPlace p) t) (most 0 (isPlace p) u)) (λ z. rw z (omega (arith, most-one p u))) (λ z. rw z (omega (arith, most-one p t)))
-
--- the values behind the first as they were, and the first value written before others
-put-back : (out ys : List ℕ) → ys ≡ midOf 1 (length out - 1) out → putMid 1 (length out - 1) out ys ≡ out
-put-back out ys e = rw e (put-same 1 (length out - 1) out)
-
-set-front : (out ys : List ℕ) (v : ℕ) → 0 < length out → set (putMid 1 (length out - 1) out ys) 0 v ≡ v ∷ ys
-set-front [] ys v h = absurd (omega arith)
-set-front (x ∷ out) ys v h =
-    let z : postOf 1 (length (x ∷ out) - 1) (x ∷ out) ≡ [] = post-is 1 (length (x ∷ out)) (x ∷ out) (omega arith) ∙ drop-of-length-le (x ∷ out) {i = length (x ∷ out)} (omega arith) in
-    ap (λ l. v ∷ l) (ap (λ l. ys ++ l) z ∙ append-nil ys)
-
-no-values : (out : List ℕ) → length out ≡ 0 → out ≡ []
-no-values [] h = refl
-no-values (x ∷ out) h = absurd (omega arith)
 
 -- one location of a chain, whose values begin at low: nothing is found below it, or something is
 module _ (p e low : ℕ) (u t : Tree ℕ) where

@@ -2,15 +2,11 @@
 -- Assumes nothing: these are definitions.
 use mathlib.Core.Path.{_≡_}
 use mathlib.Core.Bool.{Bool, cond}
-use mathlib.Core.List.{List, map}
-use Prim.Native.Nat.{ℕ, _%_}
+use mathlib.Core.List.{List}
+use Prim.Native.Nat.{ℕ}
 use lib.Dec.{eqb}
 use Rattle.search.specs.Search.{most}
-use Rattle.search.specs.Links.{treeIn, isPlace, recordIn}
-
--- the values as they are written, as words: one that is no word has been cut
-abbrev pub cut : List ℕ → List ℕ
-cut vs = map (λ v. v % 4294967296) vs
+use Rattle.search.specs.Links.{treeIn, isPlace, recordIn, cut}
 
 -- r says whether a walk of the tree at cell k finds the place; where one does, the first record whose walk does is written, and else nothing
 pub record Reached (place : ℕ) (part : List ℕ) (c left k : ℕ) (r : Bool) (before after : List ℕ) : Type 0 where

@@ -9,6 +9,7 @@ ghost use Rattle.lookup.specs.Walk.{lookupValues, lookupPacket};
 ghost use Rattle.tally.specs.Tally.{tallyAnswer, talliesLeft, cleared, difference};
 ghost use Rattle.scan.specs.Scan.{scanValues};
 ghost use Rattle.live.specs.Live.{deadSays};
+ghost use Rattle.worst.specs.Worst.{worstSays};
 ghost use Rattle.reamstork.specs.Face.{ruleOf, ruleRead, checkSays};
 use audit::Count;
 use ipv4::Rule;
@@ -17,6 +18,7 @@ use lookup::Found;
 use prefix::Range;
 use scan::Winner;
 use tally::Tallies;
+use worst::Most;
 
 // What reading a rule gives: the answer, and the rule, or zeros with a refusal.
 #[repr(C)]
@@ -126,6 +128,14 @@ pub extern "C" fn reamstork_dead(words: &[u32], number: u32) -> Life
     ensures { λ r. ⌜ r ≡ deadSays ipv4 (now (words .entry)) number ⌝ }
 {
     live::dead(words, number)
+}
+
+// Says the most reads that any values take in a table, and the least record that takes them.
+#[no_mangle]
+pub extern "C" fn reamstork_worst(words: &[u32]) -> Most
+    ensures { λ r. ⌜ r ≡ worstSays ipv4 (now (words .entry)) ⌝ }
+{
+    worst::worst(words)
 }
 
 // Looks six values up.

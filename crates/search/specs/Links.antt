@@ -1,8 +1,8 @@
 -- The tree that the words of a store give by their links, whatever they hold. The words are the part of a store from its two links on.
 -- Assumes nothing: these are definitions.
 use mathlib.Core.Bool.{cond}
-use mathlib.Core.List.{List}
-use Prim.Native.Nat.{ℕ, zero, suc}
+use mathlib.Core.List.{List, map}
+use Prim.Native.Nat.{ℕ, zero, suc, _%_}
 use lib.Dec.{ltb, eqb}
 use Rattle.model.specs.Rules.{Tree, names, stop, loc}
 use Rattle.cells.specs.Text.{cellWord}
@@ -25,3 +25,7 @@ isPlace place k = cond (eqb k place) 1 0
 -- the first record that gathers most in the tree at cell k
 unfoldable pub recordIn : ℕ → ℕ → List ℕ → ℕ → ℕ → ℕ → List ℕ
 recordIn weight place part c left k = first weight (isPlace place) 0 (treeIn part c left k)
+
+-- the values as they are written, as words: one that is no word has been cut
+abbrev pub cut : List ℕ → List ℕ
+cut vs = map (λ v. v % 4294967296) vs
