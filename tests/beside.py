@@ -12,6 +12,7 @@ tried in a copy of its own.
 A change is an object with
     function(functions)     the one function that it is in, or nothing
     wrong(functions, name)  that function as the change has it, from its head on
+and, where it can be in a function that stands only where it is,
     texts(others)           the crate's changed files, {name: text}, over those that are
                             changed already
 and raises Bad where it cannot be made.

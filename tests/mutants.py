@@ -16,10 +16,10 @@ that does the same.
 spread over its functions, with more from public calls; the seed chooses.
 --only checks those that are named, --list names them and checks none.
 --seconds ends the run when so much time is used, --limit is the time for one
-copy of a crate, which may hold several mutants (beside.py), --cut the length at which an error is cut, --jobs how many mutants are
-checked at once (default: one for each processor, at most 4). A program, and the libraries
-of the program `cases`, are left out unless they are named: what it prints is held to a file,
-not to a contract.
+copy of a crate, which may hold several mutants (beside.py), --cut the length at
+which an error is cut, --jobs how many copies are checked at once (default: one for
+each processor, at most 4). A program, and the libraries of the program `cases`, are
+left out unless they are named: what it prints is held to a file, not to a contract.
 
 Outcomes:
   fact          refused: the first error is that something does not hold

@@ -2,7 +2,7 @@
 -- Assumes nothing.
 use mathlib.Core.Path.{_≡_, refl, sym, ap, _∙_}
 use mathlib.Core.Logic.{_⊎_, ⊎-elim}
-use mathlib.Core.Bool.{true, false}
+use mathlib.Core.Bool.{true}
 use mathlib.Core.List.{List, _∷_}
 use Prim.Native.Nat.{ℕ, zero, suc, _+_, _-_, _*_, _%_, _≤_, _<_}
 use native.Mathlib.Omega.{arith}
@@ -12,16 +12,13 @@ use lib.Dec.{ltb, leb}
 use lib.ListN.{getD, length, set, length-set}
 use borrow.Rule.Slice.PartMut.{midOf, putMid}
 use borrow.Author.Tests.{ltb-true, ltb-false, leb-true, leb-false, le-leb, lt-leb}
-use Rattle.model.specs.Rules.{Tree, names, stop, loc}
+use Rattle.model.specs.Rules.{Tree, stop, loc}
 use Rattle.model.proofs.Tests.{by-test}
 use Rattle.cells.specs.Text.{cellWord}
 use Rattle.search.specs.Links.{chainIn, treeIn, cut}
 use Rattle.search.proofs.Links.{chain-next, chain-out, chain-spent, tree-chain}
 use Rattle.search.proofs.Written.{put-back, set-front, no-values}
 use Rattle.best.specs.Best.{up, peak, summit, Climbed, askOf}
-
-pub some : (n : ℕ) → (n ≡ 0 → ⊥) → 0 < n
-some n h = omega arith
 
 up-some : (n : ℕ) → 0 < n → up n ≡ suc n
 up-some zero h = absurd (omega arith)

@@ -39,9 +39,9 @@ fn from_cell(part: &[u32], c: u32, left: u32, k: u32, goal: u32, out: &mut [u32]
         let got = from_cell(part, c, left - 1, below, under, &mut out[1..]);
         if under < got {
             next = n + got;
-            out[0] = narrow(low);
+            out[0] = search::narrow(low);
         }
-        low = wide(part[at]) + 1;
+        low = search::wide(part[at]) + 1;
         i = part[at + 1];
     }
     next
@@ -55,18 +55,4 @@ fn ask(goal: u32, n: u32) -> u32
         return goal - n;
     }
     1
-}
-
-// A number as a word: what is above that is cut.
-fn narrow(x: u64) -> u32
-    ensures { λ r. ⌜ r ≡ x % 4294967296 ⌝ }
-{
-    (x % 4294967296) as u32
-}
-
-// A word as a number that has room for one more than any word.
-fn wide(x: u32) -> u64
-    ensures { λ r. ⌜ (r ≡ x) × (r ≤ 4294967295) ⌝ }
-{
-    x as u64
 }

@@ -1,61 +1,34 @@
 -- Rules that never win, by the store's rules alone.
 -- Assumes nothing.
 use mathlib.Core.Path.{_≡_, refl, sym, ap, subst, _∙_}
-use mathlib.Core.Bool.{Bool, true, false, cond}
-use mathlib.Core.Logic.{_⊎_, inl, inr, ⊎-elim, _≢_}
-use mathlib.Core.List.{List, map}
+use mathlib.Core.Logic.{inr, ⊎-elim, _≢_}
+use mathlib.Core.List.{List}
 use Prim.Native.Nat.{ℕ}
 use native.Mathlib.Omega.{arith}
-use lib.Dec.{eqb}
-use borrow.Author.Tests.{eqb-true, eqb-false}
 use Rattle.model.specs.Lists.{In}
 use Rattle.model.specs.Table.{Kind, Rule, Shaped, defaultRule, winnerOf}
 use Rattle.model.specs.Ipv4.{ipv4, ipv4-shaped}
-use Rattle.model.proofs.Tests.{by-test}
-use Rattle.model.proofs.Keep.{in-left, in-right}
+use Rattle.model.proofs.Keep.{in-left}
 use Rattle.model.proofs.Limits.{distinct, from-every}
 use Rattle.model.proofs.Decide.{winner-in, winner-holds, winner-least}
 use Rattle.header.specs.declared.Packet.{Packet}
-use Rattle.header.specs.Facts.{WithinTops}
-use Rattle.layout.specs.Store.{tableOf, readSays, deleteSays, deleteWords}
-use Rattle.search.specs.Search.{deadOf, firstWon}
+use Rattle.header.specs.Facts.{WithinTops, within-tops}
+use Rattle.layout.specs.Store.{tableOf, deleteSays, deleteWords}
 use Rattle.search.specs.Facts.{Means}
 use Rattle.search.proofs.Topped.{tops-right as in-tops-right, right-tops}
-use Rattle.live.specs.declared.Life.{Life}
-use Rattle.live.specs.Live.{life, lifeOf, deadSays}
+use Rattle.live.specs.Live.{deadSays}
 use Rattle.live.specs.Facts.{Lives}
-use Rattle.live.proofs.Facts.{alive}
-use Rattle.lookup.specs.Walk.{lookupValues}
-use Rattle.demands.specs.Calls.{Passes, rulesIn, defaultIn, everyIn, valuesIn, lookup}
+use Rattle.live.proofs.Facts.{rule-read, alive}
+use Rattle.lookup.specs.Walk.{lookupPacket}
+use Rattle.demands.specs.Calls.{Passes, rulesIn, defaultIn, everyIn, valuesIn, Bytes, lookup}
 use Rattle.demands.specs.Demand2.{Names, Edited}
-use Rattle.demands.specs.Demand1.{Refuses, done, There}
-use Rattle.demands.specs.Dead.{Wins, noRecord, Said, SameRule, Dead}
+use Rattle.demands.specs.Dead.{Wins, Said, SameRule, Dead}
 use Rattle.demands.proofs.Held.{right, checked-0}
 use Rattle.demands.proofs.Fields.{all-held, held-all}
-use Rattle.demands.proofs.Packets.{tops-right}
+use Rattle.demands.proofs.Packets.{tops-right, refused-by, readable-is, by-header}
 use Rattle.demands.proofs.Decided.{lookup-is}
 use Rattle.demands.proofs.Demand1.{demand1}
 use Rattle.demands.proofs.Demand2.{demand2}
-
--- the call answers as reading does
-answer-read : (k : Kind) (ws : List ℕ) (n : ℕ) → deadSays k ws n .answer ≡ readSays k ws n
-unfolding lifeOf
-answer-read k ws n = go (readSays k ws n) (eqb (readSays k ws n) 0) refl (deadOf k (tableOf k ws) n)
-  where
-    go : (a : ℕ) (b : Bool) → eqb a 0 ≡ b → (d : Bool) → cond b (cond d (life 0 1 (map (λ t. 0) (k .tops))) (life 0 0 (firstWon k (tableOf k ws) n))) (life a 0 (map (λ t. 0) (k .tops))) .answer ≡ a
-    go a true e true = sym (eqb-true a 0 e)
-    go a true e false = sym (eqb-true a 0 e)
-    go a false e d = refl
-
-zero-or-one : (k : Kind) (ws : List ℕ) (n : ℕ) → (deadSays k ws n .dead ≡ 0) ⊎ (deadSays k ws n .dead ≡ 1)
-unfolding lifeOf
-zero-or-one k ws n = go (eqb (readSays k ws n) 0) (deadOf k (tableOf k ws) n)
-  where
-    go : (b d : Bool) → (cond b (cond d (life 0 1 (map (λ t. 0) (k .tops))) (life 0 0 (firstWon k (tableOf k ws) n))) (life (readSays k ws n) 0 (map (λ t. 0) (k .tops))) .dead ≡ 0)
-        ⊎ (cond b (cond d (life 0 1 (map (λ t. 0) (k .tops))) (life 0 0 (firstWon k (tableOf k ws) n))) (life (readSays k ws n) 0 (map (λ t. 0) (k .tops))) .dead ≡ 1)
-    go true true = inr refl
-    go true false = inl refl
-    go false d = inl refl
 
 module _ (k : Kind) (s : Shaped k) (ws : List ℕ) (h : Passes k ws) where
   -- the rule that wins is the table's winner, by its number
@@ -70,11 +43,8 @@ module _ (k : Kind) (s : Shaped k) (ws : List ℕ) (h : Passes k ws) where
           λ b. omega (arith, winner-least k t vs v r m (held-all k vs r (b .holds)), b .least w (winner-in k t vs v) (a .holds)),
         )
 
-    read : readSays k ws (r .number) ≡ 0
-    read = sym (answer-read k ws (r .number)) ∙ alive .of-rule k s ws h r m .answer
-
     lives : Lives k ws (r .number) (Wins k ws r)
-    lives = alive .lives k s ws (r .number) read (Wins k ws r) means
+    lives = alive .lives k s ws (r .number) (rule-read k s ws h r m) (Wins k ws r) means
 
 -- what is said of a rule
 said : (ws : List ℕ) → Passes ipv4 ws → (r : Rule) → In r (everyIn ipv4 ws) → Said ws r
@@ -82,7 +52,7 @@ said ws h r m =
     let l = lives ipv4 ipv4-shaped ws h r m in
     record {
       answer = l .answer;
-      one-of = zero-or-one ipv4 ws (r .number);
+      one-of = l .one-of;
       dead = l .dead;
       dead-record = l .dead-value;
       live = l .live .0;
@@ -92,7 +62,7 @@ said ws h r m =
           let v = in-tops-right ipv4 vs (e .within) in
           let n = means ipv4 ipv4-shaped ws h r m vs (e .within) .1 (e .holds) in
           let q = distinct ipv4 (tableOf ipv4 ws) (right ipv4 ipv4-shaped ws h) (winnerOf ipv4 (tableOf ipv4 ws) vs) r (inr (winner-in ipv4 (tableOf ipv4 ws) vs v)) (inr m) n in
-          rw (lookup-is ipv4 ipv4-shaped ws h vs v) (n, ap (λ (x : Rule). x .action) q);
+          rw (lookup-is ipv4 ipv4-shaped ws h vs v) (refl, n, ap (λ (x : Rule). x .action) q);
     }
 
 -- a dead rule is deleted: the rule that decided before is still there, and no other has come
@@ -136,16 +106,24 @@ module _ (ws : List ℕ) (n : ℕ) (d : deadSays ipv4 ws n .dead ≡ 1) (a : del
 
     same : SameRule (lookup after p) (lookup ws p)
     same = (
+      new .answer ∙ sym (old .answer),
       new .number ∙ ap (λ (x : Rule). x .number) same-rule ∙ sym (old .number),
       new .action ∙ ap (λ (x : Rule). x .action) same-rule ∙ sym (old .action),
     )
 
+  -- by packet: its header gives no values, or those of a record within the tops
+  same-packet : (bytes : List ℕ) → Bytes bytes → SameRule (lookupPacket after bytes) (lookupPacket ws bytes)
+  same-packet bytes b = by-header (SameRule (lookupPacket after bytes) (lookupPacket ws bytes)) bytes
+      (λ g e u. rw (refused-by after bytes g e u, refused-by ws bytes g e u) (refl, refl, refl))
+      (λ p e. rw (readable-is after bytes p e, readable-is ws bytes p e) (same p (within-tops bytes p b e)))
+
 pub dead : Dead
 dead =
     record {
-      answer = λ ws n u. rw (answer-read ipv4 ws n) (demand1 .read ws n u);
-      answer-default = λ ws. rw (answer-read ipv4 ws 65535) (demand1 .read-default ws);
-      refused = λ ws n u. let q = alive .refused ipv4 ws n (λ e. u (answer-read ipv4 ws n ∙ e)) in (q .dead, q .value);
+      answer = λ ws n u. rw (alive .answer ipv4 ws n) (demand1 .read ws n u);
+      answer-default = λ ws. rw (alive .answer ipv4 ws 65535) (demand1 .read-default ws);
+      refused = λ ws n u. let q = alive .refused ipv4 ws n (λ e. u (alive .answer ipv4 ws n ∙ e)) in (q .dead, q .value);
       said = said;
       deleted = λ ws n d a. same ws n d a (checked-0 ipv4 ipv4-shaped ws _ a .0);
+      deleted-packet = λ ws n d a. same-packet ws n d a (checked-0 ipv4 ipv4-shaped ws _ a .0);
     }

@@ -1,6 +1,6 @@
 -- The library's packets: a record of six named numbers, whose values are right where they are within the tops; and the bytes of a packet, by what their header is.
 -- Assumes nothing.
-use mathlib.Core.Path.{_≡_, refl, sym, ap, _∙_}
+use mathlib.Core.Path.{_≡_, refl, sym}
 use mathlib.Core.Bool.{true}
 use mathlib.Core.Logic.{_≢_}
 use mathlib.Core.List.{List}

@@ -1,11 +1,10 @@
 -- The worst packet of a table, by lookups alone: a lookup reads as many cells as the rules say.
 -- Assumes nothing.
 use mathlib.Core.Path.{_≡_, sym, ap, _∙_}
-use mathlib.Core.Bool.{true}
 use mathlib.Core.List.{List}
 use Prim.Native.Nat.{ℕ, _≤_}
 use native.Mathlib.Omega.{arith}
-use Rattle.model.specs.Table.{packetRight, readsOf}
+use Rattle.model.specs.Table.{readsOf}
 use Rattle.model.specs.Ipv4.{ipv4, ipv4-shaped}
 use Rattle.model.proofs.Tests.{by-test, never}
 use Rattle.model.proofs.Decide.{reads-tight}

@@ -11,17 +11,21 @@ use Rattle.model.specs.Ipv4.{ipv4}
 use Rattle.header.specs.declared.Packet.{Packet}
 use Rattle.header.specs.Facts.{WithinTops}
 use Rattle.layout.specs.Store.{deleteSays, deleteWords}
-use Rattle.search.specs.Facts.{InTops, Never, Least}
+use Rattle.search.specs.Facts.{Never, Least}
 use Rattle.live.specs.Live.{deadSays}
 use Rattle.lookup.specs.declared.Found.{Found}
-use Rattle.lookup.specs.Walk.{lookupValues}
-use Rattle.demands.specs.Calls.{Passes, everyIn, HoldsAll, lookup}
+use Rattle.lookup.specs.Walk.{lookupValues, lookupPacket}
+use Rattle.demands.specs.Calls.{Passes, everyIn, HoldsAll, Bytes, lookup}
 use Rattle.demands.specs.Demand1.{Refuses, done, There}
 
 -- the rule r of a store is the winner for the values vs: it holds them, and no rule that holds them has a lesser number
 pub record Wins (k : Kind) (ws : List ℕ) (r : Rule) (vs : List ℕ) : Type 0 where
   pub holds : HoldsAll k vs r
   pub least : (s : Rule) → In s (everyIn k ws) → HoldsAll k vs s → r .number ≤ s .number
+
+-- a lookup names the rule r
+abbrev pub NamesIt : Rule → Found → Type 0
+NamesIt r f = (f .answer ≡ 0) × (f .rule ≡ r .number) × (f .action ≡ r .action)
 
 -- no record of values
 abbrev pub noRecord : List ℕ
@@ -35,11 +39,11 @@ pub record Said (ws : List ℕ) (r : Rule) : Type 0 where
   pub dead-record : deadSays ipv4 ws (r .number) .dead ≡ 1 → deadSays ipv4 ws (r .number) .value ≡ noRecord
   pub live : deadSays ipv4 ws (r .number) .dead ≡ 0 → Least ipv4 (Wins ipv4 ws r) (deadSays ipv4 ws (r .number) .value)
   -- so a lookup of the record names the rule
-  pub named : deadSays ipv4 ws (r .number) .dead ≡ 0 → (lookupValues ipv4 ws (deadSays ipv4 ws (r .number) .value) .rule ≡ r .number) × (lookupValues ipv4 ws (deadSays ipv4 ws (r .number) .value) .action ≡ r .action)
+  pub named : deadSays ipv4 ws (r .number) .dead ≡ 0 → NamesIt r (lookupValues ipv4 ws (deadSays ipv4 ws (r .number) .value))
 
--- two answers name the same rule and action; their reads may differ
+-- two answers are the same but for their reads
 abbrev pub SameRule : Found → Found → Type 0
-SameRule f g = (f .rule ≡ g .rule) × (f .action ≡ g .action)
+SameRule f g = (f .answer ≡ g .answer) × (f .rule ≡ g .rule) × (f .action ≡ g .action)
 
 pub record Dead : Type 0 where
   -- "Refusals: 9, 1, 4 as in reading, with the default under 65,535"
@@ -50,3 +54,4 @@ pub record Dead : Type 0 where
   pub said : (ws : List ℕ) → Passes ipv4 ws → (r : Rule) → In r (everyIn ipv4 ws) → Said ws r
   -- "nobody dares to delete": a rule that is said to be dead can be deleted, and every lookup still names the same rule and action
   pub deleted : (ws : List ℕ) (n : ℕ) → deadSays ipv4 ws n .dead ≡ 1 → deleteSays ipv4 ws n ≡ 0 → (p : Packet) → WithinTops p → SameRule (lookup (deleteWords ipv4 ws n) p) (lookup ws p)
+  pub deleted-packet : (ws : List ℕ) (n : ℕ) → deadSays ipv4 ws n .dead ≡ 1 → deleteSays ipv4 ws n ≡ 0 → (bytes : List ℕ) → Bytes bytes → SameRule (lookupPacket (deleteWords ipv4 ws n) bytes) (lookupPacket ws bytes)

@@ -1,4 +1,4 @@
--- To be read in this order: what the demands speak of, a store by its links and why a lookup answers 9, the three demands, what the store check says, document 01's starred list, the tallies of request P1, the scan of request P2, packets without ports, request P4, rules that never win, request P6, and the worst packet of a table.
+-- To be read in this order: what the demands speak of, a store by its links and why a lookup answers 9, the three demands, with request P5 in the first, what the store check says, document 01's starred list, the tallies of request P1, the scan of request P2, packets without ports, request P4, rules that never win, request P6, and the worst packet of a table.
 pub mod Calls
 pub mod Links
 pub mod Demand1

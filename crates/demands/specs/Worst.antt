@@ -1,4 +1,4 @@
--- THE WORST PACKET OF A TABLE, for the sheet of a timing analyst: "9, or the greatest count of reads that any record of values within the tops takes in this table, and the least record that takes it". Records that no real header gives, such as ICMP with ports, count too: the count is a bound for every packet, and the record need not be one that a packet can have.
+-- THE WORST PACKET OF A TABLE, for the sheet of a timing analyst: 9, or the greatest count of reads that any record of values within the tops takes in this table, and the least record that takes it. Records that no real header gives, such as ICMP with ports, count too: the count is a bound for every packet, and the record need not be one that a packet can have.
 -- What the call answers is `worstSays` of worst/specs/Worst.antt, by a search of the tree; here it is said by lookups alone.
 -- `Worst` is what is claimed; proofs/Worst.antt proves it. Assumes nothing.
 use mathlib.Core.Path.{_≡_}
@@ -17,7 +17,7 @@ use Rattle.demands.specs.Dead.{noRecord}
 
 -- what is said of a store that passes. A record of values within the tops (`InTops`) has six values, none above its top
 pub record Told (ws : List ℕ) : Type 0 where
-  -- a lookup of the record takes the reads
+  -- the record is within the tops, and a lookup of it takes the reads
   pub within : InTops ipv4 (worstSays ipv4 ws .value)
   pub taken : (lookupValues ipv4 ws (worstSays ipv4 ws .value) .answer ≡ 0) × (lookupValues ipv4 ws (worstSays ipv4 ws .value) .reads ≡ worstSays ipv4 ws .reads)
   -- none takes more, and every lesser record, compared field by field from field 1, takes fewer

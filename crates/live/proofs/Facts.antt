@@ -1,12 +1,13 @@
 -- What specs/Facts.antt claims, by the laws of the search over the table that the words hold.
 -- Assumes nothing.
 use mathlib.Core.Path.{_≡_, refl, sym, ap, subst}
-use mathlib.Core.Logic.{⊎-elim}
-use mathlib.Core.Bool.{true, false}
+use mathlib.Core.Logic.{⊎-elim, inl, inr}
+use mathlib.Core.Bool.{Bool, true, false, cond}
 use mathlib.Core.List.{List, map}
 use Prim.Native.Nat.{ℕ}
 use native.Mathlib.Omega.{arith}
-use borrow.Author.Tests.{le-ltb, eq-eqb, ne-eqb}
+use lib.Dec.{eqb}
+use borrow.Author.Tests.{le-ltb, eqb-true, eq-eqb, ne-eqb}
 use Rattle.model.specs.Lists.{In}
 use Rattle.model.specs.Table.{Kind, Rule, Shaped, numberOf, defaultRule, everyRule, winnerOf, within, stands}
 use Rattle.model.proofs.Tests.{by-test}
@@ -46,6 +47,7 @@ module _ (k : Kind) (s : Shaped k) (ws : List ℕ) (n : ℕ) (e : readSays k ws 
   lives : Lives k ws n Q
   lives = record {
     answer = by-life (λ z q. ap (λ (l : Life). l .answer) q) (λ z q. ap (λ (l : Life). l .answer) q);
+    one-of = by-life (λ z q. inr (ap (λ (l : Life). l .dead) q)) (λ z q. inl (ap (λ (l : Life). l .dead) q));
     dead = (
       λ d. by-life (λ z q. won .dead .0 z) (λ z q. absurd (omega (arith, ap (λ (l : Life). l .dead) q, d))),
       λ f. by-life (λ z q. ap (λ (l : Life). l .dead) q) (λ z q. let l = won .live z in absurd (f _ (l .within) (l .holds))),
@@ -77,8 +79,18 @@ unfolding lifeOf
 says-no k ws n h = rw (ne-eqb (readSays k ws n) 0 h)
 
 refused : (k : Kind) (ws : List ℕ) (n : ℕ) → (readSays k ws n ≡ 0 → ⊥) → Refused k ws n
-refused k ws n h = let q = says-no k ws n h in record { answer = ap (λ (l : Life). l .answer) q; dead = ap (λ (l : Life). l .dead) q; value = ap (λ (l : Life). l .value) q }
+refused k ws n h = let q = says-no k ws n h in record { dead = ap (λ (l : Life). l .dead) q; value = ap (λ (l : Life). l .value) q }
+
+-- the answer, of any words
+answer : (k : Kind) (ws : List ℕ) (n : ℕ) → deadSays k ws n .answer ≡ readSays k ws n
+unfolding lifeOf
+answer k ws n = go (readSays k ws n) (eqb (readSays k ws n) 0) refl (deadOf k (tableOf k ws) n)
+  where
+    go : (a : ℕ) (b : Bool) → eqb a 0 ≡ b → (d : Bool) → cond b (cond d (life 0 1 (map (λ t. 0) (k .tops))) (life 0 0 (firstWon k (tableOf k ws) n))) (life a 0 (map (λ t. 0) (k .tops))) .answer ≡ a
+    go a true e true = sym (eqb-true a 0 e)
+    go a true e false = sym (eqb-true a 0 e)
+    go a false e d = refl
 
 -- ALL THAT IS CLAIMED
 pub alive : Alive
-alive = record { lives = lives; of-rule = of-rule; refused = refused }
+alive = record { lives = lives; of-rule = of-rule; answer = answer; refused = refused }

@@ -22,9 +22,6 @@ use Rattle.search.proofs.Written.{put-back, set-front, no-values}
 use Rattle.search.proofs.Links.{chain-next, chain-out, chain-spent, tree-chain}
 use Rattle.reach.specs.Reach.{Reached}
 
-pub some : (n : ℕ) → (n ≡ 0 → ⊥) → 0 < n
-some n h = omega arith
-
 -- a place is found once or not at all
 pub most-one : (p : ℕ) (t : Tree ℕ) → most 0 (isPlace p) t ≤ 1
 unfolding most

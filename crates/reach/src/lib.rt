@@ -30,26 +30,12 @@ fn from_cell(part: &[u32], c: u32, left: u32, k: u32, place: u32, out: &mut [u32
         let at = 2 + 8 * (i as usize);
         let below = part[at + 2];
         if from_cell(part, c, left - 1, below, place, &mut out[1..]) {
-            out[0] = narrow(low);
+            out[0] = search::narrow(low);
             return true;
         }
-        low = wide(part[at]) + 1;
+        low = search::wide(part[at]) + 1;
         i = part[at + 1];
         n += 1;
     }
     false
-}
-
-// A number as a word: what is above that is cut.
-fn narrow(x: u64) -> u32
-    ensures { λ r. ⌜ r ≡ x % 4294967296 ⌝ }
-{
-    (x % 4294967296) as u32
-}
-
-// A word as a number that has room for one more than any word.
-fn wide(x: u32) -> u64
-    ensures { λ r. ⌜ (r ≡ x) × (r ≤ 4294967295) ⌝ }
-{
-    x as u64
 }

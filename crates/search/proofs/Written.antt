@@ -9,6 +9,9 @@ use borrow.Rule.Slice.PartMut.{midOf, postOf, putMid, put-same, post-is}
 use Rattle.search.specs.Links.{cut}
 use Rattle.search.proofs.First.{Fits}
 
+pub some : (n : ℕ) → (n ≡ 0 → ⊥) → 0 < n
+some n h = omega arith
+
 -- the values behind the first as they were, and the first value written before others
 pub put-back : (out ys : List ℕ) → ys ≡ midOf 1 (length out - 1) out → putMid 1 (length out - 1) out ys ≡ out
 put-back out ys e = rw e (put-same 1 (length out - 1) out)

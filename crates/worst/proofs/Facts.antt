@@ -1,18 +1,16 @@
 -- What specs/Facts.antt claims, by the laws of the search over the table that the words hold.
 -- Assumes nothing.
-use mathlib.Core.Path.{_≡_, refl, sym, ap, subst}
+use mathlib.Core.Path.{_≡_}
 use mathlib.Core.Bool.{true, false}
 use mathlib.Core.List.{List, map}
 use Prim.Native.Nat.{ℕ}
-use Rattle.model.specs.Table.{Kind, Shaped, readsOf}
+use Rattle.model.specs.Table.{Kind, Shaped}
 use Rattle.model.proofs.Tests.{by-test}
 use Rattle.layout.specs.Store.{tableOf, passes}
 use Rattle.layout.proofs.Sound.{sound}
 use Rattle.layout.proofs.Passed.{sound-within}
 use Rattle.search.specs.Search.{mostReads, firstWorst}
-use Rattle.search.specs.Facts.{Worst}
 use Rattle.search.proofs.Facts.{searches}
-use Rattle.worst.specs.declared.Most.{Most}
 use Rattle.worst.specs.Worst.{made, mostOf, worstSays}
 use Rattle.worst.specs.Facts.{Told, Refused, Worsts}
 

@@ -17,7 +17,7 @@ use Rattle.layout.proofs.Parts.{part-slice}
 use Rattle.layout.proofs.Sound.{sound, Roomy}
 use Rattle.layout.proofs.Passed.{sound-within, sound-room}
 use Rattle.search.specs.Search.{most, first, nothing, mostReads, firstWorst}
-use Rattle.search.specs.Links.{treeIn, cut}
+use Rattle.search.specs.Links.{treeIn}
 use Rattle.search.proofs.First.{Topped, leaf, last, more, first-here, first-past, by-place, first-fits}
 use Rattle.search.proofs.Topped.{topped-of}
 use Rattle.search.proofs.Written.{cut-fits}

@@ -1,20 +1,20 @@
 -- `best::from_cell` meets its contract. The invariant: what is found so far and the rest of the chain say what the whole says. The measures are the fields that are left, and the cells that may still be read.
 -- Assumes nothing.
 use Prim.Native.Nat.{ℕ, _+_, _-_, _<_}
-use mathlib.Core.Path.{_≡_, sym, ap, _∙_}
+use mathlib.Core.Path.{sym, _∙_}
 use mathlib.Core.Logic.{inl, inr, ⊎-elim}
 use native.Mathlib.Omega.{arith}
 use borrow.Author.Needs.{needs}
-use lib.ListN.{length, length-set}
 use borrow.Fn.Kinds.{In}
 use borrow.Fn.PlainCycle.{Measures, is, falls, and}
-use Rattle.best.proofs.Steps.{some, Going, leaf-met, leaf-not, going-start, going-better, going-worse, going-end, ask-some, got-small}
+use Rattle.search.proofs.Written.{some}
+use Rattle.best.proofs.Steps.{Going, leaf-met, leaf-not, going-start, going-better, going-worse, going-end, ask-some, got-small}
 use Rattle.best.proofs.from_cell.Reads as reads
 use Rattle.best.proofs.from_cell.Kinds as kinds
 use Rattle.best.proofs.+from_cell.Lts-from_cell as lts
 use Rattle.best.proofs.ask.Reads as ask-reads
-use Rattle.best.proofs.narrow.Reads as narrow-reads
-use Rattle.best.proofs.wide.Reads as wide-reads
+use Rattle.search.proofs.narrow.Reads as narrow-reads
+use Rattle.search.proofs.wide.Reads as wide-reads
 use Rattle.best.proofs.+from_cell.{statement}
 use Rattle.best.proofs.+from_cell.Tie.{close}
 

@@ -7,12 +7,13 @@ use borrow.Author.Needs.{needs}
 use lib.ListN.{length, length-set}
 use borrow.Fn.Kinds.{In}
 use borrow.Fn.PlainCycle.{Measures, is, falls, and}
-use Rattle.reach.proofs.Steps.{some, Going, leaf, going-start, going-on, going-found, going-end}
+use Rattle.search.proofs.Written.{some}
+use Rattle.reach.proofs.Steps.{Going, leaf, going-start, going-on, going-found, going-end}
 use Rattle.reach.proofs.from_cell.Reads as reads
 use Rattle.reach.proofs.from_cell.Kinds as kinds
 use Rattle.reach.proofs.+from_cell.Lts-from_cell as lts
-use Rattle.reach.proofs.narrow.Reads as narrow-reads
-use Rattle.reach.proofs.wide.Reads as wide-reads
+use Rattle.search.proofs.narrow.Reads as narrow-reads
+use Rattle.search.proofs.wide.Reads as wide-reads
 use Rattle.reach.proofs.+from_cell.{statement}
 use Rattle.reach.proofs.+from_cell.Tie.{close}
 

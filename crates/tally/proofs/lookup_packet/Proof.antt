@@ -1,7 +1,6 @@
 -- `tally::lookup_packet` meets its contract: one law for each answer.
 -- Assumes nothing.
 use mathlib.Core.Path.{sym, ap, _∙_}
-use native.Mathlib.Omega.{arith}
 use borrow.Author.Needs.{needs}
 use Rattle.header.proofs.Cases.{not-values}
 use Rattle.lookup.specs.declared.Found.{Found}
