@@ -15,7 +15,6 @@ KIND, MARK = 2, 0              # the word that names the kind, and what it says
 FRONT_LOADS = (0, 1, KIND, BEGIN) # what every lookup loads of the front, besides the rule's row
 RULE_LOADS = (0, 1)            # what it loads of that row: number and action
 FIXED = len(FRONT_LOADS) + len(RULE_LOADS)
-CHECK_LOADS = (2,) + (1,) * 7  # how often at most the check loads each word of a cell
 LINKS = 3                      # the words of a cell that a search takes: end, next and down
 NEXT = 1                       # the one of them that leads on in a chain
 RECORD = 14                    # words of a record of a list
@@ -223,15 +222,27 @@ def see_reader(call, touched, result):
     expect(not touched.stores, 'it writes words of the store')
 
 
+# The words over which the check was seen last, and how often it loads each of them: that is the
+# compiler's own choice.
+checked = {}
+
+
+def see_check(call, touched, result):
+    see_reader(call, touched, result)
+    checked.update(words=list(call.words), loads=touched.loaded(STORE, call.len))
+
+
 def see_dead(call, touched, result):
     """The check goes over the cells once. Then, where no refusal is due, the tree is gone
-    through, at most once: free cells are not in it."""
+    through, at most once: free cells are not in it. The check alone, over the same words, has
+    come before."""
     see_reader(call, touched, result)
+    expect(checked['words'] == list(call.words), 'the check was seen over other words')
     for word, times in touched.loaded(STORE, call.len).items():
         cell, part = divmod(word - FRONT, CELL)
         if cell >= 0:
             tree = result[0] == 0 and part < LINKS and cell < call.words[FREE]
-            most = CHECK_LOADS[part] + tree
+            most = checked['loads'][word] + tree
             expect(times <= most, 'it loads word %d of cell %d %d times, and %d are enough', part,
                    cell, times, most)
 
@@ -243,9 +254,10 @@ def see_worst(call, touched, result):
     if result[0] == 0:
         loaded = touched.loaded(STORE, call.len)
         for cell in range(call.words[FREE]):
-            times = loaded[FRONT + CELL * cell + NEXT]
-            expect(times == CHECK_LOADS[NEXT] + 1, 'it loads the next of cell %d %d times, not %d',
-                   cell, times, CHECK_LOADS[NEXT] + 1)
+            word = FRONT + CELL * cell + NEXT
+            once = checked['loads'][word] + 1
+            expect(loaded[word] == once, 'it loads the next of cell %d %d times, not %d', cell,
+                   loaded[word], once)
 
 
 def see(call, touched, result):
@@ -257,6 +269,6 @@ def see(call, touched, result):
     elif call.op in (PREFIX, DIFFERENCE):
         touched.only()
     else:
-        {LOOKUP_PACKET: see_packet, LOOKUP_TALLY: see_tally, SCAN: see_scan, CHECK: see_reader,
+        {LOOKUP_PACKET: see_packet, LOOKUP_TALLY: see_tally, SCAN: see_scan, CHECK: see_check,
          READ: see_reader, RULE_AT: see_reader, DEAD: see_dead, WORST: see_worst,
          CELLS: see_reader}.get(call.op, see_edit)(call, touched, result)
