@@ -247,7 +247,10 @@ class Captures:
         for snap in SNAPS:
             sizes = [self.rng.choice((0, 1, 11, 12, 13, 30, 400)) for _ in range(12)] + [0, 13]
             first, second = map(self.path, ('live.pcap', 'raw.pcap'))
-            self.caught(tcpdump, snap + len(ETHERNET), sizes, first)
+            try:
+                self.caught(tcpdump, snap + len(ETHERNET), sizes, first)
+            except (OSError, subprocess.TimeoutExpired) as why:
+                raise Missing('a loopback that tcpdump hears') from why
             run([editcap, '-F', 'pcap', '-T', 'rawip', '-C', '14', first, second])
             packets = capture_records(self.held(second))[0]
             what = 'tcpdump -s %d on the loopback' % (snap + len(ETHERNET))
