@@ -1,6 +1,7 @@
 """Cases about rules that never win: request P6."""
 
 import itertools
+from math import prod
 
 from portless import rule_of
 from reference import (BENCH_RULES, DEFAULT, PORTLESS, PORTS, TOPS, Rule, default_rule,
@@ -51,19 +52,24 @@ def by_cutting(rules, number):
     return min((tuple(low for low, _ in box) for box in boxes), default=None), len(boxes)
 
 
-def by_trying(rules):
-    """Every rule that some record makes the winner, with the first such record. A scan looks
-    up all records, in rising order, whose values are each 0, where some rule begins, or one
+def corners(rules):
+    """All records, in rising order, whose values are each 0, where some rule begins, or one
     above where some rule ends. None where these are more than MOST_RECORDS."""
     tried = [sorted({value for rule in rules for value in (0, rule.low[f], rule.high[f] + 1)
                      if value <= top}) for f, top in enumerate(TOPS)]
-    size = 1
-    for values in tried:
-        size *= len(values)
-    if size > MOST_RECORDS:
+    if prod(map(len, tried)) > MOST_RECORDS:
+        return None
+    return itertools.product(*tried)
+
+
+def by_trying(rules):
+    """Every rule that some corner makes the winner, with the first such corner, by a scan. None
+    where there are too many."""
+    records = corners(rules)
+    if records is None:
         return None
     others, firsts = [rule for rule in rules if rule.number != DEFAULT], {}
-    for record in itertools.product(*tried):
+    for record in records:
         firsts.setdefault(scan(others, 0, record)[1], record)
     return firsts
 

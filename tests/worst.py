@@ -2,7 +2,7 @@
 
 import itertools
 
-from dead import Grid, loaded, spanned
+from dead import NONE, WORD, Grid, corners, loaded, spanned
 from edits import wander
 from portless import rule_of
 from reference import (BENCH_RULES, PORTLESS, PORTS, TOPS, Rule, count_cells, default_rule,
@@ -10,10 +10,7 @@ from reference import (BENCH_RULES, PORTLESS, PORTS, TOPS, Rule, count_cells, de
 from store import expect, fresh
 from tables import World, values_near
 
-WORD = 2 ** 32 - 1
-NONE = (0,) * 6
 REFUSED = (9, 0) + NONE
-MOST_RECORDS = 3000
 
 
 def most(reads, *record):
@@ -33,18 +30,13 @@ def without_ports(field, value):
 # ---- the worst record in another way ----
 
 def by_trying(rules):
-    """The reads of every record, in rising order, whose values are each 0, where some rule
-    begins, or one above where some rule ends: the greatest, and the first record that has it.
-    None where there are more than MOST_RECORDS."""
-    tried = [sorted({value for rule in rules for value in (0, rule.low[f], rule.high[f] + 1)
-                     if value <= top}) for f, top in enumerate(TOPS)]
-    size = 1
-    for values in tried:
-        size *= len(values)
-    if size > MOST_RECORDS:
+    """The greatest count of reads of all corners, and the first one that takes it. None where
+    there are too many."""
+    records = corners(rules)
+    if records is None:
         return None
     greatest, first = 0, None
-    for record in itertools.product(*tried):
+    for record in records:
         reads = winner_and_reads(rules, record)[1]
         if reads > greatest:
             greatest, first = reads, record

@@ -26,11 +26,11 @@ use Rattle.layout.specs.Store.{cellsIn, tableOf, cellsGives}
 use Rattle.layout.proofs.Bridge.{bridge, stored-cells}
 use Rattle.layout.proofs.Sound.{sound as parts-of}
 use Rattle.cells.proofs.From.{text-stands, text-behind}
+use Rattle.tied.proofs.Places.{ties}
 use Rattle.demands.specs.Calls.{Passes, rulesIn, fieldCount, lowAt, highAt, topAt, FullPorts, PortsOnly}
 use Rattle.demands.specs.Links.{freeLink, walkLink}
 use Rattle.demands.specs.Check.{TreeFrom, cellsFrom, cellsUsed, SoundStore, Check}
 use Rattle.demands.proofs.Held.{cells-in, table-in, text-passes, room, right, begins-with, fits, in-use}
-use Rattle.demands.proofs.Decided.{tree-in}
 use Rattle.demands.proofs.Fields.{ports-say, right-from}
 use Rattle.demands.proofs.Links.{cellsOn, length-on, in-on, Laid, ruleOn, gives, reaches, many, follows}
 
@@ -75,7 +75,7 @@ module _ (k : Kind) (s : Shaped k) (ws : List ℕ) (h : Passes k ws) where
 
   tail-is : drop L ws ≡ part C T ++ past
   unfolding C T past
-  tail-is = sym (take-append-drop (2 + 8 * C) (drop L ws)) ∙ ap (λ l. l ++ past) (tree-in k s ws h)
+  tail-is = sym (take-append-drop (2 + 8 * C) (drop L ws)) ∙ ap (λ l. l ++ past) (ties .cells k s ws h)
 
   free-link : freeLink k ws ≡ cells T
   unfolding part

@@ -1,6 +1,6 @@
 -- Over words that pass the check, the lookup of right values answers what the rules say: the winner's number and action, and the reads of demand 3.
 -- Assumes nothing.
-use mathlib.Core.Path.{_≡_, sym, ap, ap₂, _∙_}
+use mathlib.Core.Path.{_≡_, sym, ap, _∙_}
 use mathlib.Core.Bool.{true}
 use mathlib.Core.List.{List}
 use Prim.Native.Nat.{ℕ, _+_, _<_}
@@ -9,14 +9,13 @@ use lib.ListN.{length, getD, drop}
 use lib.Seq.{getD-take, getD-drop}
 use Rattle.model.specs.Table.{Kind, Rule, Table, Shaped, rowWords, winnerOf, readsOf, packetRight}
 use Rattle.model.proofs.Grid.{row-ends}
-use Rattle.rows.specs.Rows.{treeAt}
-use Rattle.cells.specs.Text.{part}
 use Rattle.cells.proofs.Text.{deep-tree}
 use Rattle.table.specs.Rows.{rowsText, places}
 use Rattle.layout.specs.Named.{stored}
-use Rattle.layout.specs.Store.{cellsIn, partOf, tableOf, passes}
+use Rattle.layout.specs.Store.{tableOf, passes}
 use Rattle.layout.proofs.Bridge.{stored-cells, stored-reads, stored-finds}
 use Rattle.layout.proofs.Sound.{sound, count-is}
+use Rattle.tied.proofs.Places.{ties}
 use Rattle.lookup.specs.declared.Found.{Found}
 use Rattle.lookup.specs.Walk.{lookupValues}
 use Rattle.lookup.proofs.Tree.{lookup-tree, begins-row}
@@ -29,10 +28,6 @@ abbrev pub foundOf : Kind → Table → List ℕ → Found
 foundOf k t vs = record { answer = 0; rule = winnerOf k t vs .number; action = winnerOf k t vs .action; reads = readsOf k t vs }
 
 module _ (k : Kind) (s : Shaped k) (ws : List ℕ) (h : passes k ws ≡ true) where
-  pub tree-in : partOf k (cellsIn ws) ws ≡ part (cellsIn ws) (stored k (tableOf k ws))
-  unfolding stored
-  tree-in = sound k s ws h .tree ∙ ap₂ (λ rows m. part (cellsIn ws) (treeAt rows 0 (length (k .tops)) (places (k .width) m))) (sound k s ws h .rows) (sym (count-is k s ws))
-
   -- word i of the rows
   row-word : (i : ℕ) → i < rowWords k → getD ws (k .head + i) 0 ≡ getD (rowsText k (tableOf k ws)) i 0
   row-word i l = sym (getD-take (rowWords k) (drop (k .head) ws) i 0 l ∙ getD-drop (k .head) ws i 0) ∙ ap (λ rows. getD rows i 0) (sound k s ws h .rows)
@@ -54,6 +49,6 @@ module _ (k : Kind) (s : Shaped k) (ws : List ℕ) (h : passes k ws ≡ true) wh
       let a = ap (λ i. getD ws i 0) y ∙ row-word (p + 1) l ∙ ap (λ (z : Rule). z .action) (f .winner) in
       let m = stored-reads k s t w vs v in
       right-in k ws vs v
-      ∙ lookup-tree k ws vs (stored k t) p (o .marked) (r .least) (r .most) (r .long) tree-in (omega (arith, stored-cells k s t w, fits k s ws h))
+      ∙ lookup-tree k ws vs (stored k t) p (o .marked) (r .least) (r .most) (r .long) (ties .cells k s ws h) (omega (arith, stored-cells k s t w, fits k s ws h))
       (rw n (deep-tree (rowsText k t) 0 (length (k .tops)) (places (k .width) (length (t .rules))))) (f .found-there) (rw (f .begins) b)
       ∙ (λ i. record { answer = 0; rule = x i; action = a i; reads = m i })

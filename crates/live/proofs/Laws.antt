@@ -27,7 +27,7 @@ use Rattle.search.proofs.Written.{cut-fits}
 use Rattle.search.specs.Links.{treeIn, isPlace, recordIn}
 use Rattle.reach.specs.Reach.{Reached}
 use Rattle.reach.proofs.Steps.{most-one}
-use Rattle.tied.proofs.Places.{words-most, words-first}
+use Rattle.tied.proofs.Places.{ties}
 use Rattle.live.specs.Live.{life, lifeOf, Standing, rowOf, placeOf}
 
 -- an answer 0 of a reading: the number stands
@@ -115,10 +115,10 @@ module _ (k : Kind) (s : Shaped k) (ws : List ℕ) (n : ℕ) (f : Standing k ws 
     P = take (E + (2 + 8 * cellsIn ws) - E) (drop E ws)
 
     most-is : most 0 (isPlace p) (treeIn P (cellsIn ws) (length (k .tops)) (getD P 1 0)) ≡ most 0 (wins n) (treeOf k (tableOf k ws))
-    most-is = rw (part-slice k ws E g (cellsIn ws), q) (words-most k s ws (f .pass) 0 (placeOf k ws n) (wins n) same)
+    most-is = rw (part-slice k ws E g (cellsIn ws), q) (ties .found k s ws (f .pass) (placeOf k ws n) (wins n) same)
 
-    first-is : recordIn 0 p P (cellsIn ws) (length (k .tops)) (getD P 1 0) ≡ firstWon k (tableOf k ws) n
-    first-is = rw (part-slice k ws E g (cellsIn ws), q) (words-first k s ws (f .pass) 0 (placeOf k ws n) (wins n) same)
+    first-is : recordIn p P (cellsIn ws) (length (k .tops)) (getD P 1 0) ≡ firstWon k (tableOf k ws) n
+    first-is = rw (part-slice k ws E g (cellsIn ws), q) (ties .written k s ws (f .pass) (placeOf k ws n) (wins n) same)
 
     module _ (r : Bool) (none out : List ℕ) (h : Reached p P (cellsIn ws) (length (k .tops)) (getD P 1 0) r none out) (a : ℕ) (o : a ≡ 0) (e : readSays k ws n ≡ 0) where
       -- it is live, and its record is written

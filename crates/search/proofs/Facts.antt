@@ -95,12 +95,9 @@ module _ (k : Kind) (t : Table) (w : within k t ≡ true) where
 
   worst : Worst k t
   worst = record {
+    within = worst-in;
+    takes = sym (read (firstWorst k t) worst-in) ∙ first-most 1 nothing (topped-of k t w);
     no-more = λ vs h. rw (← read vs h) (score-most 1 nothing (treeOf k t) vs);
-    first = record {
-      within = worst-in;
-      holds = sym (read (firstWorst k t) worst-in) ∙ first-most 1 nothing (topped-of k t w);
-      least = λ vs h m q. omega (arith, fewer vs h m, q);
-    };
     fewer = fewer;
   }
 

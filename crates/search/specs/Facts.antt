@@ -34,10 +34,11 @@ pub record Won (k : Kind) (t : Table) (n : ℕ) (Q : List ℕ → Type 0) : Type
   pub dead : (deadOf k t n ≡ true) ↔ Never k Q
   pub live : deadOf k t n ≡ false → Least k Q (firstWon k t n)
 
--- worst reads: no record takes more, the least that takes as many, and every lesser record takes fewer
+-- worst reads: the record is within the tops and takes them, no record takes more, and every lesser one takes fewer
 pub record Worst (k : Kind) (t : Table) : Type 0 where
+  pub within : InTops k (firstWorst k t)
+  pub takes : readsOf k t (firstWorst k t) ≡ mostReads k t
   pub no-more : (vs : List ℕ) → InTops k vs → readsOf k t vs ≤ mostReads k t
-  pub first : Least k (λ vs. readsOf k t vs ≡ mostReads k t) (firstWorst k t)
   pub fewer : (vs : List ℕ) → InTops k vs → Less vs (firstWorst k t) → readsOf k t vs < mostReads k t
 
 pub record Searches : Type 1 where

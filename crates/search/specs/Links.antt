@@ -22,9 +22,9 @@ treeIn part c (suc left) k = chainIn part c (λ d. treeIn part c left d) c k
 abbrev pub isPlace : ℕ → ℕ → ℕ
 isPlace place k = cond (eqb k place) 1 0
 
--- the first record that gathers most in the tree at cell k
-unfoldable pub recordIn : ℕ → ℕ → List ℕ → ℕ → ℕ → ℕ → List ℕ
-recordIn weight place part c left k = first weight (isPlace place) 0 (treeIn part c left k)
+-- the first record whose walk of the tree at cell k finds a place
+unfoldable pub recordIn : ℕ → List ℕ → ℕ → ℕ → ℕ → List ℕ
+recordIn place part c left k = first 0 (isPlace place) 0 (treeIn part c left k)
 
 -- the values as they are written, as words: one that is no word has been cut
 abbrev pub cut : List ℕ → List ℕ

@@ -24,8 +24,8 @@ told k s ws h =
     let q = says k ws h in
     record {
       answer = rw q;
-      within = rw q (w .first .within);
-      takes = rw q (w .first .holds);
+      within = rw q (w .within);
+      takes = rw q (w .takes);
       no-more = rw q (w .no-more);
       fewer = rw q (w .fewer);
     }

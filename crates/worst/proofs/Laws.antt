@@ -23,7 +23,7 @@ use Rattle.search.proofs.Topped.{topped-of}
 use Rattle.search.proofs.Written.{cut-fits}
 use Rattle.best.specs.Best.{peak, summit, Climbed}
 use Rattle.best.proofs.Steps.{climb-here, climb-past}
-use Rattle.tied.proofs.Places.{words-tree}
+use Rattle.tied.proofs.Places.{ties}
 use Rattle.worst.specs.Worst.{made, mostOf}
 
 -- other names: the walks are as long
@@ -76,7 +76,7 @@ module _ (k : Kind) (s : Shaped k) (ws : List ℕ) (p : passes k ws ≡ true) wh
 
     -- the tree that the words give
     tree-is : treeIn P (cellsIn ws) (length (k .tops)) (getD P 1 0) ≡ stored k (tableOf k ws)
-    tree-is = rw (part-slice k ws E g (cellsIn ws)) (words-tree k s ws p)
+    tree-is = rw (part-slice k ws E g (cellsIn ws)) (ties .tree k s ws p)
 
     names-of : ℕ → Rule
     names-of = ruleIn (length (k .tops)) (rowsText k (tableOf k ws))

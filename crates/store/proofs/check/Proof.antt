@@ -2,7 +2,7 @@
 -- Assumes nothing.
 use borrow.Author.Needs.{needs}
 use mathlib.Core.Path.{refl}
-use Rattle.store.proofs.Chosen.{shaped, scratch}
+use Rattle.ipv4.proofs.Chosen.{shaped, scratch}
 use Rattle.store.proofs.check.Statement.{statement}
 use Rattle.store.proofs.check.Tie as tie
 

@@ -7,7 +7,7 @@ use Rattle.table.specs.Rows.{ruleIn}
 use lib.ListN.{length}
 use Rattle.model.specs.Ipv4.{ipv4}
 use Rattle.layout.specs.Store.{insertSays, insertWords}
-use Rattle.store.proofs.Chosen.{shaped, scratch}
+use Rattle.ipv4.proofs.Chosen.{shaped, scratch}
 use Rattle.store.proofs.insert.Statement.{statement}
 use Rattle.store.proofs.insert.Tie as tie
 

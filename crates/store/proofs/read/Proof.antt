@@ -7,7 +7,8 @@ use Rattle.model.specs.Ipv4.{ipv4}
 use Rattle.model.specs.Table.{Kind, readAnswer, readRule}
 use Rattle.table.specs.Rows.{ruleIn}
 use Rattle.layout.specs.Store.{rowsOf, tableOf, readSays}
-use Rattle.store.proofs.Chosen.{shaped, scratch, found-is, found-front}
+use Rattle.ipv4.proofs.Chosen.{shaped, scratch}
+use Rattle.store.proofs.Found.{found-is, found-front}
 use Rattle.store.proofs.read.Statement.{statement}
 use Rattle.store.proofs.read.Tie as tie
 

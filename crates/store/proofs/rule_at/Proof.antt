@@ -7,7 +7,8 @@ use Rattle.model.specs.Ipv4.{ipv4}
 use Rattle.model.specs.Table.{Kind, placeAnswer, placeRule}
 use Rattle.table.specs.Rows.{ruleIn}
 use Rattle.layout.specs.Store.{rowsOf, tableOf, placeSays}
-use Rattle.store.proofs.Chosen.{shaped, scratch, found-is, found-front}
+use Rattle.ipv4.proofs.Chosen.{shaped, scratch}
+use Rattle.store.proofs.Found.{found-is, found-front}
 use Rattle.store.proofs.rule_at.Statement.{statement}
 use Rattle.store.proofs.rule_at.Tie as tie
 

@@ -8,7 +8,8 @@ use lib.ListN.{length}
 use Rattle.model.specs.Ipv4.{ipv4}
 use Rattle.model.specs.Table.{Kind}
 use Rattle.table.specs.Rows.{ruleIn}
-use Rattle.store.proofs.Chosen.{shaped, found-no, found-yes, rows-here}
+use Rattle.ipv4.proofs.Chosen.{shaped}
+use Rattle.store.proofs.Found.{found-no, found-yes, rows-here}
 use Rattle.store.proofs.rule_found.Statement.{statement}
 use Rattle.store.proofs.rule_found.Tie as tie
 

@@ -3,7 +3,7 @@
 use borrow.Author.Needs.{needs}
 use mathlib.Core.Path.{_≡_, refl, subst}
 use Rattle.model.specs.Table.{Kind}
-use Rattle.store.proofs.Chosen.{shaped, scratch}
+use Rattle.ipv4.proofs.Chosen.{shaped, scratch}
 use Rattle.layout.specs.Store.{startAnswer, startWords}
 use Rattle.store.proofs.start.Statement.{statement}
 use Rattle.store.proofs.start.Tie as tie

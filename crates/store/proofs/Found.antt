@@ -1,4 +1,4 @@
--- The kind that is chosen: what its shape comes to.
+-- What a search for a rule found, for the kind that is chosen.
 -- Assumes nothing.
 use mathlib.Core.Path.{_≡_, refl, sym, ap, _∙_}
 use mathlib.Core.Bool.{cond}
@@ -8,24 +8,16 @@ use native.Mathlib.Omega.{arith}
 use lib.ListN.{length, take, drop}
 use lib.Dec.{eqb}
 use borrow.Author.Tests.{eq-eqb, ne-eqb, eqb-true, eqb-false}
-use Rattle.model.specs.Table.{Kind, Shaped, Rule, front}
+use Rattle.model.specs.Table.{Kind, Rule, front}
 use Rattle.model.proofs.Tests.{by-test}
 use Rattle.layout.specs.Inner.{ruleFound}
 use Rattle.layout.specs.Store.{rowsOf, passes, checked, zeroRule}
 use Rattle.model.specs.Ipv4.{ipv4, ipv4-shaped}
-use Rattle.rows.specs.Rows.{Scratch}
 use Rattle.layout.proofs.Parts.{rows-slice}
 use Rattle.layout.proofs.Sound.{sound}
 use Rattle.layout.proofs.Passed.{sound-room}
 use Rattle.table.specs.declared.Shape.{Shape}
 use Rattle.table.specs.Rows.{kindOf, ruleIn}
-
-module _ (s : Shape) (e : kindOf (ipv4 .tops) s ≡ ipv4) where
-  pub shaped : Shaped (kindOf (ipv4 .tops) s)
-  shaped = rw e ipv4-shaped
-
-  pub scratch : (sets ends : List ℕ) → length sets ≡ 455 → length ends ≡ 455 → Scratch (suc (s .most)) (length (ipv4 .tops)) sets ends
-  scratch sets ends a b = let z : s .most ≡ 64 = ap (λ k. k .most) e in rw z (record { places = omega arith; room = omega arith })
 
 -- what a search that answered a and found the row at p gives
 module _ (k : Kind) (ws : List ℕ) (a p : ℕ) where
