@@ -86,7 +86,7 @@
  * A rule has a number, 0 to 65,534, and an action, any 32-bit number,
  * whose meaning is the caller's.  A table has at most 64 rules, no two
  * with the same number, and besides them the default rule: number 65,535,
- * full ranges, and the action given at the start.
+ * full ranges, and the action given at the start, 0 where none is named.
  *
  * A packet is decided by the rule with the least number among those whose
  * six ranges all hold its values.  The default always holds them.
@@ -191,9 +191,9 @@ extern "C" {
  * version than this, may be no store of this one: run reamstork_check
  * before the first lookup in them.
  */
-#define REAMSTORK_VERSION          "3.2"
-#define REAMSTORK_VERSION_MAJOR    3
-#define REAMSTORK_VERSION_MINOR    2
+#define REAMSTORK_VERSION          "4.0"
+#define REAMSTORK_VERSION_MAJOR    4
+#define REAMSTORK_VERSION_MINOR    0
 
 /*
  * LIMITS
@@ -202,7 +202,7 @@ extern "C" {
 #define REAMSTORK_RULES_MAX        64           /* rules besides the default */
 #define REAMSTORK_NUMBER_MAX       65534        /* greatest number of a rule */
 #define REAMSTORK_DEFAULT          65535        /* number of the default     */
-#define REAMSTORK_DEFAULT_ACTION   1            /* of reamstork_start        */
+#define REAMSTORK_DEFAULT_ACTION   0            /* of reamstork_start        */
 #define REAMSTORK_CELLS_MIN        6            /* least c                   */
 #define REAMSTORK_CELLS_MAX        65536        /* greatest c                */
 #define REAMSTORK_PLACES           65           /* slots of a tally record, not places of rules */
@@ -315,7 +315,9 @@ static inline reamstork_record reamstork_record_of(reamstork_rule rule)
  *
  * Makes the first REAMSTORK_WORDS(c) of the words, whatever they hold, a
  * store of c cells with the default rule alone.  reamstork_start gives the
- * default action 1 (forward), reamstork_start_with the action named.
+ * default action 0, reamstork_start_with the action named.  So where 0 is
+ * the caller's "drop", packets that no rule holds are dropped unless another
+ * action is named.
  *
  *   8  c is below 6 or above 65,536, or len below REAMSTORK_WORDS(c)
  *   0  done

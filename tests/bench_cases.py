@@ -22,7 +22,7 @@ from tables import packet_of
 
 FOLDER = os.path.join(os.path.dirname(os.path.abspath(__file__)), 'captures')
 HEAD = 'packet answer rule action reads\n'
-ROWS = ('1 0 10 2 9\n', '2 7 0 0 0\n', '3 0 65535 1 8\n')
+ROWS = ('1 0 10 2 9\n', '2 7 0 0 0\n', '3 0 65535 0 8\n')
 REFUSED = 'refused 12\n'
 
 
@@ -98,7 +98,7 @@ def cases():
 
         # by the port rule rule 10 holds packets with ports alone, rule 20 all
         yield case('without_ports', capture_of(without_ports(), order),
-                   HEAD + '1 0 20 3 7\n2 0 20 3 8\n3 0 10 2 9\n4 0 65535 1 9\nend 4 0\n')
+                   HEAD + '1 0 20 3 7\n2 0 20 3 8\n3 0 10 2 9\n4 0 65535 0 9\nend 4 0\n')
 
         # 14 beside 7 and 0
         yield case('cut_short', cut_short(order), CUT_SHORT)

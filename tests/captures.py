@@ -70,7 +70,7 @@ def install():
 
 
 def some_packets(rng, count):
-    rules = list(BENCH_RULES) + [default_rule(1)]
+    rules = list(BENCH_RULES) + [default_rule(0)]
     return [p for p in (random_packet(rng, rules) for _ in range(count)) if p]
 
 

@@ -13,10 +13,10 @@ TAKEN = tuple(range(65)) + (5,) * 130
 
 
 def pair(talk):
-    """A store of the default alone, and the same words one short."""
+    """A store of the default alone, with action 1, and the same words one short."""
     good, short = Store(talk, words_needed(6)), Store(talk, words_needed(6))
-    good.start(6)
-    short.start(6)
+    good.start(6, 1)
+    short.start(6, 1)
     talk.lend(short.id, words_needed(6) - 1)
     return good, short
 

@@ -70,7 +70,7 @@ def starts(talk, rng):
         for spare in (-1, 0, 1, 300):
             for how in HOWS[1:]:
                 store = Store(talk, words_needed(c) + spare, how, rng.getrandbits(32))
-                for action in (None, 0, 7, 2 ** 32 - 1):
+                for action in (7, None, 2 ** 32 - 1, 0):
                     store.start(c, action)
                     if spare >= 0:
                         store.audit(rng)
@@ -92,7 +92,7 @@ def any_words_before(talk, rng):
         first = Store(talk, n, fill=rng.getrandbits(32))
         first.start(c)
         second = Store(talk, n + 5, fill=rng.getrandbits(32))
-        second.start(c, 1)
+        second.start(c, 0)
         talk.same(first.id, second.id, n)
         world = World(rng)
         for _ in range(10):

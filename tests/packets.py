@@ -11,10 +11,10 @@ BENCH_LOOKUPS = (
     ('10.0.0.5', 17, 5004, (0, 10, 2, 9)),
     ('10.0.0.5', 6, 80, (0, 20, 3, 7)),
     ('10.0.0.5', 17, 5010, (0, 20, 3, 10)),
-    ('10.0.0.200', 6, 80, (0, 65535, 1, 8)),
-    ('10.0.0.200', 17, 5010, (0, 65535, 1, 11)),
-    ('10.0.1.0', 6, 80, (0, 65535, 1, 9)),
-    ('9.255.255.255', 6, 80, (0, 65535, 1, 6)),
+    ('10.0.0.200', 6, 80, (0, 65535, 0, 8)),
+    ('10.0.0.200', 17, 5010, (0, 65535, 0, 11)),
+    ('10.0.1.0', 6, 80, (0, 65535, 0, 9)),
+    ('9.255.255.255', 6, 80, (0, 65535, 0, 6)),
 )
 
 
@@ -75,7 +75,7 @@ def every_prefix(talk, rng):
 EXAMPLE_OUTPUT = '''packet answer rule action reads
 1 0 10 2 9
 2 7 0 0 0
-3 0 65535 1 8
+3 0 65535 0 8
 end 3 0
 '''
 
@@ -156,7 +156,7 @@ def prefixes(talk, rng):
 # ---- the bench program ----
 
 def random_capture(rng):
-    rules = list(BENCH_RULES) + [default_rule(1)]
+    rules = list(BENCH_RULES) + [default_rule(0)]
     order = rng.choice(('big', 'little'))
     packets = [random_packet(rng, rules) for _ in range(rng.choice((0, 1, 3, 10, 60)))]
     if rng.random() < 0.2:

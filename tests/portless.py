@@ -80,19 +80,19 @@ def request_example(talk, rng):
             store.lookup(values)
             talk.records(rules, 1, values, want)
 
-    store = fresh(talk, rng, 60)
+    store = fresh(talk, rng, 60, 1)
     expect(store.insert(low_ports) == 0, 'the reference and request P4')
     ask(store, [low_ports], (tenth, alone, alone, tenth, alone))
     expect(store.insert(low_ports._replace(number=11, high=low_ports.high[:5] + (1,))) == 2,
            'the reference and request P4')
     for portless, wanted in (((0, 1), (tenth,) * 5), ((1, 1), (alone, tenth, tenth, alone, alone)),
                              ((0, 0), (tenth, alone, alone, tenth, tenth))):
-        store = fresh(talk, rng, 60)
+        store = fresh(talk, rng, 60, 1)
         rule = rule_of(10, 2, portless=portless)
         expect(store.insert(rule) == 0, 'the reference and request P4')
         ask(store, [rule], wanted)
     # both: a rule with the ports, and one for what has none
-    store = fresh(talk, rng, 60)
+    store = fresh(talk, rng, 60, 1)
     rules = [low_ports, rule_of(20, 3, portless=(1, 1))]
     for rule in rules:
         expect(store.insert(rule) == 0, 'the reference and request P4')

@@ -160,7 +160,7 @@ class Account:
         self.rules = {}
         self.default = None
 
-    def start(self, length, c, action=1):
+    def start(self, length, c, action=0):
         if not LEAST_CELLS <= c <= MOST_CELLS or length < words_needed(c):
             return BAD_START
         self.c = c

@@ -33,7 +33,7 @@ fn main() {
 fn fill(words: &mut [u32])
     ensures { λ _. ⌜ now (words .exit) ≡ benchWords (now (words .entry)) ⌝ }
 {
-    store::start(words, 1920, 1);
+    store::start(words, 1920, 0);
     store::insert(words, rule_10());
     store::insert(words, rule_20());
 }

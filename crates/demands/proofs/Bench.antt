@@ -9,7 +9,7 @@ use lib.Dec.{ltb}
 use lib.ListN.{length}
 use borrow.Author.Tests.{le-ltb}
 use Rattle.model.specs.Bench.{rule10, rule20, rows, decided, starred, packet, fresh as alone, both as rules}
-use Rattle.model.specs.Table.{Rule, Table, withRule, without, insertAnswer, deleteAnswer, cellsOf}
+use Rattle.model.specs.Table.{Rule, Table, startAction, withRule, without, insertAnswer, deleteAnswer, cellsOf}
 use Rattle.model.specs.Ipv4.{ipv4, ipv4-shaped}
 use Rattle.layout.specs.Store.{size, cellsIn, tableOf, startAnswer, startWords, insertSays, insertWords, deleteSays, deleteWords, cellsGives}
 use Rattle.layout.proofs.Sound.{room-is}
@@ -76,7 +76,7 @@ room c k h = rw (le-ltb c k h)
 taken : (lent : List ℕ) (c : ℕ) → 54 ≤ c → c ≤ 65536 → size ipv4 c ≤ length lent → WithRoom lent c
 taken lent c a b l =
     let h = started lent c (omega arith) b l in
-    let s = is-fresh lent c 1 h in
+    let s = is-fresh lent c startAction h in
     let r10 : insertAnswer ipv4 c alone rule10 ≡ 0 = room c 33 (omega arith) in
     let r20 : insertAnswer ipv4 c alone rule20 ≡ 0 = room c 18 (omega arith) in
     let s10 = is-with s rule10 r10 in
@@ -102,7 +102,7 @@ taken lent c a b l =
 
 full : (lent : List ℕ) → size ipv4 53 ≤ length lent → WithoutRoom lent
 full lent l =
-    let s = is-fresh lent 53 1 (started lent 53 (omega arith) (omega arith) l) in
+    let s = is-fresh lent 53 startAction (started lent 53 (omega arith) (omega arith) l) in
     record {
       first-10 = says s rule10;
       first-20 = says s rule20;

@@ -4,6 +4,7 @@ use mathlib.Core.Path.{_≡_}
 use mathlib.Core.List.{List, map}
 use Prim.Native.Nat.{ℕ, _≤_}
 use lib.ListN.{length, getD}
+use Rattle.model.specs.Table.{startAction}
 use Rattle.model.specs.Bench.{rule10, rule20, Row, rows}
 use Rattle.model.specs.Ipv4.{ipv4}
 use Rattle.header.specs.declared.Packet.{Packet}
@@ -12,10 +13,10 @@ use Rattle.prefix.specs.Prefix.{rangeOf}
 use Rattle.lookup.specs.declared.Found.{Found}
 use Rattle.demands.specs.Calls.{lookup}
 
--- the words of a store of c cells over the words lent: "Default action 1"; with rule 10, with rule 20, with both in either order, and "after rule 20 goes again"
+-- the words of a store of c cells over the words lent: "Default action 1", by P7 0, as where a start names none; with rule 10, with rule 20, with both in either order, and "after rule 20 goes again"
 module _ (lent : List ℕ) (c : ℕ) where
   abbrev pub wordsFresh : List ℕ
-  wordsFresh = startWords ipv4 lent c 1
+  wordsFresh = startWords ipv4 lent c startAction
 
   abbrev pub words10 : List ℕ
   words10 = insertWords ipv4 wordsFresh rule10

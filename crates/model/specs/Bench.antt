@@ -6,7 +6,7 @@ use mathlib.Core.List.{List, [], _∷_, map}
 use mathlib.Core.Option.{some}
 use Prim.Native.Nat.{ℕ}
 use Rattle.model.specs.Rules.{found, reads, values}
-use Rattle.model.specs.Table.{Rule, Table, fields, treeOf, winnerOf, readsOf, cellsOf, within, withRule, without, insertAnswer}
+use Rattle.model.specs.Table.{Rule, Table, startAction, fields, treeOf, winnerOf, readsOf, cellsOf, within, withRule, without, insertAnswer}
 use Rattle.model.specs.Ipv4.{ipv4}
 
 -- "Rule 10: destination 10.0.0.0 to 10.0.0.255, any source, protocol 17, destination port 5000 to 5009, any source port, action 2", and by P4 "Bench rule 10 asks 0 to 0"
@@ -17,9 +17,9 @@ rule10 = record { number = 10; action = 2; lows = 167772160 ∷ 0 ∷ 17 ∷ 500
 abbrev pub rule20 : Rule
 rule20 = record { number = 20; action = 3; lows = 167772160 ∷ 0 ∷ 0 ∷ 0 ∷ 0 ∷ 0 ∷ []; highs = 167772287 ∷ 4294967295 ∷ 255 ∷ 65535 ∷ 65535 ∷ 1 ∷ [] }
 
--- "Default action 1"
+-- "Default action 1", which a start sets that names none; by P7 it is 0
 abbrev pub fresh : Table
-fresh = record { action = 1; rules = [] }
+fresh = record { action = startAction; rules = [] }
 
 abbrev pub both : Table
 both = withRule rule20 (withRule rule10 fresh)
@@ -40,10 +40,10 @@ rows =
     record { asked = packet 167772165 17 5004; rule = 10; action = 2; reads = 9 }
     ∷ record { asked = packet 167772165 6 80; rule = 20; action = 3; reads = 7 }
     ∷ record { asked = packet 167772165 17 5010; rule = 20; action = 3; reads = 10 }
-    ∷ record { asked = packet 167772360 6 80; rule = 65535; action = 1; reads = 8 }
-    ∷ record { asked = packet 167772360 17 5010; rule = 65535; action = 1; reads = 11 }
-    ∷ record { asked = packet 167772416 6 80; rule = 65535; action = 1; reads = 9 }
-    ∷ record { asked = packet 167772159 6 80; rule = 65535; action = 1; reads = 6 }
+    ∷ record { asked = packet 167772360 6 80; rule = 65535; action = 0; reads = 8 }
+    ∷ record { asked = packet 167772360 17 5010; rule = 65535; action = 0; reads = 11 }
+    ∷ record { asked = packet 167772416 6 80; rule = 65535; action = 0; reads = 9 }
+    ∷ record { asked = packet 167772159 6 80; rule = 65535; action = 0; reads = 6 }
     ∷ []
 
 -- the row that the definitions give for a packet, with no tree
@@ -52,7 +52,7 @@ decided p = record { asked = p; rule = winnerOf ipv4 both p .number; action = wi
 
 -- the starred cases of document 01, in its order
 pub record Starred : Type 0 where
-  -- the seven lookups, with rule, action and reads: "All reads in the cases rise by one"
+  -- the seven lookups, with rule, action and reads: "All reads in the cases rise by one", and by P7 "the default's rows show action 0"
   pub lookups : map (λ r. decided (r .asked)) rows ≡ rows
   -- a walk of the tree finds the same, with as many reads
   pub walks : map (λ r. found (treeOf ipv4 both) (values (fields ipv4) (r .asked))) rows ≡ map (λ r. some (winnerOf ipv4 both (r .asked))) rows

@@ -48,6 +48,10 @@ pub record Table : Type 0 where
   pub action : ℕ
   pub rules : List Rule
 
+-- the default's action where none is named: "A start without a named action now sets action 0" (P7, for document 01's 1)
+abbrev pub startAction : ℕ
+startAction = 0
+
 abbrev pub numberOf : Rule → ℕ
 numberOf r = r .number
 

@@ -1,6 +1,7 @@
 // The C face of the library, as include/reamstork.h declares it: exported functions and nothing else. Each says, for every input, what it returns and what every lent word then holds.
 ghost use mathlib.Core.Path.{_≡_};
 ghost use mathlib.Core.List.{[], _∷_};
+ghost use Rattle.model.specs.Table.{startAction};
 ghost use Rattle.model.specs.Ipv4.{ipv4};
 ghost use Rattle.ipv4.specs.Rule.{given};
 ghost use Rattle.prefix.specs.Prefix.{rangeOf};
@@ -30,12 +31,12 @@ pub struct Reading {
     pub high: [u32; 6],
 }
 
-// Starts a store of c cells without a named action: 1, forward.
+// Starts a store of c cells without a named action: the default has action 0.
 #[no_mangle]
 pub extern "C" fn reamstork_start(words: &mut [u32], c: u32) -> u32
-    ensures { λ r. ⌜ (r ≡ startAnswer ipv4 (now (words .entry)) c) × (now (words .exit) ≡ startWords ipv4 (now (words .entry)) c 1) ⌝ }
+    ensures { λ r. ⌜ (r ≡ startAnswer ipv4 (now (words .entry)) c) × (now (words .exit) ≡ startWords ipv4 (now (words .entry)) c startAction) ⌝ }
 {
-    store::start(words, c, 1)
+    store::start(words, c, 0)
 }
 
 // Starts a store of c cells whose default rule has an action.
