@@ -18,7 +18,7 @@ else
 $(error MACHINE is '$(MACHINE)': there are archives for x86_64 and for aarch64)
 endif
 
-.PHONY: help run lib install uninstall example test soak bench-speed bench-stack bench-place bench-cells mutants must-fail edits-list clean kit tools capture
+.PHONY: help run lib install uninstall example test soak bench-speed bench-peers bench-stack bench-place bench-cells mutants must-fail edits-list clean kit tools capture
 # Two provers over one target/ would be in each other's way.
 .NOTPARALLEL:
 .DELETE_ON_ERROR:
@@ -42,6 +42,7 @@ help:
 	@echo 'make test                      prove every crate, try every must-fail edit, run every test'
 	@echo 'make soak [SECONDS_LONG=3600]  the independent second program for as long as you like'
 	@echo 'make bench-speed, bench-stack  figures of docs/TIMING.md'
+	@echo 'make bench-peers               a lookup beside DPDK'"'"'s rte_acl'
 	@echo 'make bench-place               what finding a new rule'"'"'s place costs, in instructions'
 	@echo 'make bench-cells               how many cells tables of several shapes take'
 	@echo 'make mutants                   small wrong changes, and whether the prover refuses them'
@@ -96,6 +97,10 @@ soak: $(X86) tools
 
 bench-speed: $(X86) tools
 	@sh plain/speed.sh $(X86)
+
+bench-peers: $(X86) tools
+	@tests/tools peers
+	@sh plain/peers.sh $(X86)
 
 bench-stack: $(X86) tools
 	@CC=tests/x86cc RUN=tests/x86 sh plain/stack.sh $(X86)

@@ -3,8 +3,9 @@
  *
  * Loads a table of rules into a static store, lists what the store
  * holds, deletes the rules that never win, says what the worst packet
- * takes, decides frames and counts them by action and by rule.  No heap and
- * no input: it prints gateway.expected.
+ * takes, freezes the table, decides frames from the store and from the
+ * image, and counts them by action and by rule.  No heap and no input: it
+ * prints gateway.expected.
  *
  * On an x86-64 machine, after `make lib`, in the top folder:
  *
@@ -68,6 +69,10 @@ static const struct {
 static uint32_t store[REAMSTORK_WORDS(1920)];
 static const size_t store_len = sizeof store / sizeof store[0];
 static reamstork_tallies tallies;
+
+/* The table frozen.  At a multiple of 64 bytes each of its blocks is one line of the cache. */
+_Alignas(64) static uint32_t image[REAMSTORK_IMAGE_WORDS_MOST(1920)];
+static const size_t image_len = sizeof image / sizeof image[0];
 
 static uint32_t load(size_t i)
 {
@@ -172,9 +177,17 @@ int main(void)
 	printf("worst: %" PRIu32 " reads", worst.reads);
 	record(", first to ", worst.value);
 
+	/* Now that no more edits come, the same table for reading alone. */
+	if (reamstork_freeze(store, store_len, image, image_len) != REAMSTORK_DONE)
+		return 1;
+	printf("image: %" PRIu32 " words\n", reamstork_image_words(store, store_len).words);
+
 	for (size_t i = 0; i < sizeof frames / sizeof frames[0]; i++) {
 		reamstork_found f = reamstork_lookup_packet_tally(store, store_len, frames[i].bytes, frames[i].len, &tallies);
+		reamstork_found g = reamstork_image_lookup_packet(image, image_len, frames[i].bytes, frames[i].len);
 
+		if (g.answer != f.answer || g.rule != f.rule || g.action != f.action)
+			return 1;	/* the words of one were damaged: both decide alike */
 		if (f.answer == REAMSTORK_UNREADABLE)
 			unreadable++;	/* not IPv4, or a bad header: dropped */
 		else if (f.answer == REAMSTORK_CUT)
@@ -185,7 +198,7 @@ int main(void)
 			counts[f.action]++;
 		if (f.reads > most)
 			most = f.reads;
-		printf("frame %zu: answer %" PRIu32 ", rule %" PRIu32 ", reads %" PRIu32 "\n", i + 1, f.answer, f.rule, f.reads);
+		printf("frame %zu: answer %" PRIu32 ", rule %" PRIu32 ", reads %" PRIu32 ", blocks %" PRIu32 "\n", i + 1, f.answer, f.rule, f.reads, g.reads);
 	}
 	for (int a = 0; a < ACTIONS; a++)
 		printf("%s: %" PRIu32 "\n", action_names[a], counts[a]);

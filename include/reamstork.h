@@ -3,7 +3,8 @@
  *
  * A store holds a table of rules and a search tree built from it, in
  * words that the caller lends.  A lookup names the rule that decides a
- * packet and says how many cells of the tree it read.
+ * packet and says how many cells of the tree it read.  An image is a store
+ * frozen: read-only words in which a lookup reads fewer, larger pieces.
  *
  * This header is the manual.  It needs <stddef.h> and <stdint.h> and
  * nothing else.  The library allocates nothing, keeps no state between
@@ -46,18 +47,21 @@
  * promised.
  *
  *  - `words` points to at least `len` words of 32 bits, aligned as
- *    uint32_t is; `packet` points to at least `packet_len` bytes; `low`
- *    and `high` point to six words each; `tallies` points to a
- *    reamstork_tallies; `records` points to at least `count` of
+ *    uint32_t is; so does `image` to at least `image_len` words, or `len`
+ *    where it is the only one; `packet` points to at least `packet_len`
+ *    bytes; `low` and `high` point to six words each; `tallies` points to
+ *    a reamstork_tallies; `records` points to at least `count` of
  *    reamstork_record.  No pointer is null, not even with a length or
  *    count of 0.
  *  - A call that writes its words (start, start_with, insert, delete) has
  *    them to itself while it runs: no other thread, interrupt or device
  *    reads or writes them, and `low` and `high` do not lie within them.
- *    A call that is lent tallies has these to itself in the same way, and
- *    they lie neither within its words nor within its packet.
+ *    freeze has its image to itself in the same way, and it does not
+ *    overlap the words.  A call that is lent tallies has these to itself
+ *    too, and they lie neither within its words nor within its packet.
  *  - While a call that only reads its words runs, nobody writes them, its
  *    packet or its records, and the words and the packet do not overlap.
+ *    The words of an image are meant as well.
  *    Any number of such calls may run at once over the same words; those
  *    that count have a tally record each.
  *
@@ -139,9 +143,9 @@
  *
  * A lookup touches the cells that it counts and six words besides; this
  * is measured, not proved.  check goes over all cells of the store, and so
- * do insert, delete, read, rule_at, cells, dead and worst, which run it
- * first; insert and delete then build the tree anew, and dead and worst go
- * through it.
+ * do insert, delete, read, rule_at, cells, dead, worst, image_words and
+ * freeze, which run it first; insert and delete then build the tree anew,
+ * and dead, worst, image_words and freeze go through it.
  *
  * The words of a store are a function of c, the default's action and the
  * rules.  Two stores with the same of these have the same words, bit for
@@ -191,9 +195,9 @@ extern "C" {
  * version than this, may be no store of this one: run reamstork_check
  * before the first lookup in them.
  */
-#define REAMSTORK_VERSION          "4.0"
+#define REAMSTORK_VERSION          "4.1"
 #define REAMSTORK_VERSION_MAJOR    4
-#define REAMSTORK_VERSION_MINOR    0
+#define REAMSTORK_VERSION_MINOR    1
 
 /*
  * LIMITS
@@ -230,6 +234,13 @@ extern "C" {
 #define REAMSTORK_WORDS(c)         (1024ul + 8ul * (c))
 
 /*
+ * Words enough for the image of any table whose tree takes that many cells
+ * or fewer, so for every store of that many, a constant where the number is
+ * one.  reamstork_image_words has the exact total, which is often much less.
+ */
+#define REAMSTORK_IMAGE_WORDS_MOST(cells) (1024ul + 16ul * (cells))
+
+/*
  * ANSWERS
  *
  * Each is given exactly when its condition holds and none that stands
@@ -245,7 +256,7 @@ extern "C" {
 #define REAMSTORK_NO_ROOM          6   /* too few cells for the new tree */
 #define REAMSTORK_UNREADABLE       7   /* packet not readable */
 #define REAMSTORK_BAD_SIZE         8   /* number of cells outside its limits, or too few words */
-#define REAMSTORK_BAD_STORE        9   /* store fails the check */
+#define REAMSTORK_BAD_STORE        9   /* store or image fails the check */
 #define REAMSTORK_BAD_PREFIX       10  /* prefix too long, or address not a multiple of its size */
 #define REAMSTORK_BAD_VALUE        11  /* value above its top */
 /* 12 is the bench program's alone:      capture not accepted */
@@ -261,6 +272,7 @@ typedef struct { uint32_t answer, low, high; } reamstork_range;
 typedef struct { uint32_t key[65], packets[65], bytes[65]; } reamstork_tallies;
 typedef struct { uint32_t number, action, low[6], high[6]; } reamstork_record;
 typedef struct { uint32_t answer, rule, action; } reamstork_winner;
+typedef struct { uint32_t answer, words; } reamstork_size;
 
 /*
  * AN ANSWER AS A TEXT
@@ -280,7 +292,7 @@ static inline const char *reamstork_answer(uint32_t answer)
 	case REAMSTORK_NO_ROOM: return "too few cells for the new tree";
 	case REAMSTORK_UNREADABLE: return "packet not readable";
 	case REAMSTORK_BAD_SIZE: return "number of cells outside its limits, or too few words";
-	case REAMSTORK_BAD_STORE: return "store fails the check";
+	case REAMSTORK_BAD_STORE: return "store or image fails the check";
 	case REAMSTORK_BAD_PREFIX: return "prefix too long, or address not a multiple of its size";
 	case REAMSTORK_BAD_VALUE: return "value above its top";
 	case 12: return "capture not accepted";
@@ -380,8 +392,8 @@ uint32_t reamstork_delete(uint32_t *words, size_t len, uint32_t number);
  *   9  otherwise
  *
  * Every store that an accepted start, insert or delete leaves passes.
- * Changes no word.  insert, delete, read, rule_at, cells, dead and worst
- * run it first.
+ * Changes no word.  insert, delete, read, rule_at, cells, dead, worst,
+ * image_words and freeze run it first.
  *
  * The check cannot see a change that makes the words another store, such
  * as another action, or another number that leaves the numbers rising.
@@ -658,6 +670,143 @@ reamstork_found reamstork_lookup_packet_tally(const uint32_t *words, size_t len,
  * between.  It never refuses.
  */
 uint32_t reamstork_tally_difference(uint32_t earlier, uint32_t later);
+
+/*
+ * THE WORDS OF AN IMAGE
+ *
+ * A table that seldom changes can be frozen: into words of which a lookup
+ * reads few pieces of 64 bytes, called blocks, where in the store it reads
+ * many cells.
+ *
+ *   9  the store fails the check
+ *   0  done: words is the exact total of the image's words, 1,024 in front
+ *      and 16 for each block
+ *
+ * Changes no word.  The total is a function of the rules' ranges, and so
+ * are the blocks: the m distinct ends of a field, under one location of the
+ * field before, stand in m / 8 blocks, rounded up, eight to a block; where
+ * these are more than one, with blocks above them, a link for each, rounded
+ * up in the same way; and so on until one is left.  A tree never has more
+ * blocks than cells.  docs/IMAGE.md has the layout.
+ */
+reamstork_size reamstork_image_words(const uint32_t *words, size_t len);
+
+/*
+ * FREEZE A TABLE
+ *
+ *   9  the store fails the check
+ *   8  image_len is below the total that reamstork_image_words gives
+ *   0  done
+ *
+ * in this order.  Done: the first words of the image, as many as the total,
+ * are the image of the table that the store holds, whatever they held; every
+ * word behind them is as before.  Refused: all words of the image are as
+ * before, and none is written.  The store is as before in any case.
+ *
+ *     reamstork_size s = reamstork_image_words(words, len);
+ *     if (s.answer == REAMSTORK_DONE && s.words <= room)
+ *         reamstork_freeze(words, len, image, room);
+ *
+ * An image is read-only: no call edits one.  After an insert or a delete in
+ * the store freeze anew, into other words where frames flow meanwhile, and
+ * change over as with stores, above.
+ *
+ * An image holds no address and nothing of the store but its table: not its
+ * c, and nothing of the edits that brought it there.  Tables with the same
+ * default action and the same rules have the same image, bit for bit.  So
+ * it may be copied anywhere, to flash as well, and be read where it stands.
+ *
+ * Lent at an address that is a multiple of 64, each block of it is one line
+ * of a cache that has lines of 64 bytes.  No call asks for more than the
+ * alignment of uint32_t.
+ *
+ *     _Alignas(64) static uint32_t image[REAMSTORK_IMAGE_WORDS_MOST(1920)];
+ */
+uint32_t reamstork_freeze(const uint32_t *words, size_t len, uint32_t *image, size_t image_len);
+
+/*
+ * CHECK AN IMAGE
+ *
+ *   0  the words, all len of them, are the image of a store that passes the
+ *      check: a table within the limits and the port rule, whose tree takes
+ *      at most 65,536 cells, and its blocks, laid as docs/IMAGE.md has it
+ *      and in no other way
+ *   9  otherwise
+ *
+ * len is the exact total: with a word more or less the answer is 9.  Every
+ * image that an accepted freeze leaves passes, and no store does.  Changes
+ * no word.  Like a store's check it cannot see a change that makes the
+ * words another image, such as another action.
+ */
+uint32_t reamstork_image_check(const uint32_t *image, size_t len);
+
+/*
+ * LOOK UP SIX VALUES IN AN IMAGE
+ *
+ *  11  protocol above 255, a port above 65,535, or portless above 1
+ *   9  the walk is lost, see below
+ *   0  done: number and action of the rule that decides, and in reads the
+ *      blocks that were read
+ *
+ * in this order.  Changes no word.  len may be greater than the total.
+ *
+ * Over the image of a store rule and action are those of reamstork_lookup
+ * in the store, for all values, and 9 is never given.  In each field the
+ * blocks read are the least L of at least 1 with 8^L not below m, the
+ * distinct ends of the rules whose ranges hold the earlier values.  With n
+ * rules besides the default m is at most 2 n + 1: so 6 blocks suffice for
+ * up to 3 rules, 12 for up to 31, and 18 for a full table.
+ *
+ * Besides its blocks a lookup touches the words 1 and 2 of the image and
+ * two words of a row; this is measured, not proved.
+ *
+ * A lookup does not run the check.  Over any other words the answer follows
+ * the walk:
+ *
+ *   Words.  9 at once unless len is at least 1,024 and word 2 is 0.
+ *
+ *   Fields.  The walk begins at block 0 and goes through the six fields in
+ *   order.  Block b is the words 1024 + 16 b on: eight ends, and a link for
+ *   each.  9 at a block that is not within len.  As many ends as are below
+ *   the field's value, so many links are passed over, and the next one is
+ *   taken; 9 if all eight ends are below it.  A link below 2,147,483,648
+ *   names a block, and the walk goes on there in this field.  Of any other
+ *   the rest, less 2,147,483,648, is the block where the next field begins.
+ *   9 after 8 blocks of one field that all led on within it.
+ *
+ *   Rule.  In the last field that rest is p, the word of the rows at which
+ *   a rule's row begins, and p is taken or refused as in reamstork_lookup.
+ *
+ *   Reads.  The number of blocks so read, at most 48.
+ */
+reamstork_found reamstork_image_lookup(const uint32_t *image, size_t len, uint32_t destination, uint32_t source, uint32_t protocol, uint32_t destination_port, uint32_t source_port, uint32_t portless);
+
+/*
+ * LOOK UP AN IPV4 PACKET IN AN IMAGE
+ *
+ *   7  as in reamstork_lookup_packet
+ *  14  as in reamstork_lookup_packet
+ *   9  as in reamstork_image_lookup
+ *   0  as in reamstork_image_lookup, for the values that the header gives
+ *
+ * in this order.  Changes neither image nor packet.
+ */
+reamstork_found reamstork_image_lookup_packet(const uint32_t *image, size_t len, const uint8_t *packet, size_t packet_len);
+
+/*
+ * LOOK UP AN IPV4 PACKET IN AN IMAGE, AND COUNT IT
+ *
+ *   7  as in reamstork_lookup_packet
+ *  14  as in reamstork_lookup_packet
+ *   9  as in reamstork_image_lookup
+ *  13  as in reamstork_lookup_packet_tally
+ *   0  done: the answer is that of reamstork_image_lookup_packet
+ *
+ * in this order.  The tallies become what reamstork_lookup_packet_tally
+ * makes of them, where the same rule decides.  Changes neither image nor
+ * packet.
+ */
+reamstork_found reamstork_image_lookup_packet_tally(const uint32_t *image, size_t len, const uint8_t *packet, size_t packet_len, reamstork_tallies *tallies);
 
 /*
  * LOOK UP SIX VALUES IN A LIST OF RULES

@@ -18,6 +18,8 @@ enum { CELLS = 65536, STACK = 1 << 20 };
 
 static uint32_t words[REAMSTORK_WORDS(CELLS)], fresh[REAMSTORK_WORDS(1920)];
 static const size_t len = REAMSTORK_WORDS(CELLS);
+static uint32_t image[REAMSTORK_IMAGE_WORDS_MOST(CELLS)];
+static size_t image_len;
 static struct rule rules[64];
 static uint32_t values[REAMSTORK_FIELDS];
 static uint8_t packet[28];
@@ -135,6 +137,39 @@ static void lookup_packet_tally(void)
 	answer |= reamstork_lookup_packet_tally(words, len, packet, sizeof packet, &tallies).answer;
 }
 
+static void image_words(void)
+{
+	reamstork_size size = reamstork_image_words(words, len);
+
+	answer |= size.answer;
+	image_len = size.words;
+}
+
+static void freeze(void)
+{
+	answer |= reamstork_freeze(words, len, image, image_len);
+}
+
+static void image_check(void)
+{
+	answer |= reamstork_image_check(image, image_len);
+}
+
+static void image_lookup(void)
+{
+	answer |= reamstork_image_lookup(image, image_len, values[0], values[1], values[2], values[3], values[4], values[5]).answer;
+}
+
+static void image_lookup_packet(void)
+{
+	answer |= reamstork_image_lookup_packet(image, image_len, packet, sizeof packet).answer;
+}
+
+static void image_lookup_packet_tally(void)
+{
+	answer |= reamstork_image_lookup_packet_tally(image, image_len, packet, sizeof packet, &tallies).answer;
+}
+
 static void tallies_clear(void)
 {
 	reamstork_tallies_clear(&tallies);
@@ -168,7 +203,7 @@ static void in_turn(size_t *a, size_t *b, void (*f)(void), void (*g)(void))
 
 static void say(const char *name, size_t bytes)
 {
-	printf("  %-30s %8zu bytes\n", name, bytes);
+	printf("  %-36s %8zu bytes\n", name, bytes);
 }
 
 int main(void)
@@ -195,6 +230,12 @@ int main(void)
 	say("reamstork_lookup", used(lookup) - base);
 	say("reamstork_lookup_packet", used(lookup_packet) - base);
 	say("reamstork_lookup_packet_tally", used(lookup_packet_tally) - base);
+	say("reamstork_image_words", used(image_words) - base);
+	say("reamstork_freeze", used(freeze) - base);
+	say("reamstork_image_check", used(image_check) - base);
+	say("reamstork_image_lookup", used(image_lookup) - base);
+	say("reamstork_image_lookup_packet", used(image_lookup_packet) - base);
+	say("reamstork_image_lookup_packet_tally", used(image_lookup_packet_tally) - base);
 	say("reamstork_tallies_clear", used(tallies_clear) - base);
 	say("reamstork_scan", used(scan) - base);
 	say("reamstork_prefix", used(prefix) - base);

@@ -116,7 +116,7 @@ static void draw_values(uint32_t v[REAMSTORK_FIELDS], const struct rule *rules, 
 }
 
 /* The 28 bytes of an IPv4 packet with these values, which has ports. */
-static void write_packet(uint8_t b[28], const uint32_t v[REAMSTORK_FIELDS])
+static inline void write_packet(uint8_t b[28], const uint32_t v[REAMSTORK_FIELDS])
 {
 	static const uint8_t header[12] = { 0x45, 0, 0, 28, 0, 0, 0x40, 0, 64, 0, 0, 0 };
 

@@ -11,8 +11,9 @@ import tempfile
 from array import array
 from pathlib import Path
 
-from loads import (BASE, CELLS, CHECK, CLEAR, DEAD, DELETE, DIFFERENCE, FILL, GET, INSERT, LOOKUP,
-                   LOOKUP_PACKET, LOOKUP_TALLY, PLACES, PREFIX, READ, RULE_AT, SCAN, START,
+from loads import (BASE, CELLS, CHECK, CLEAR, DEAD, DELETE, DIFFERENCE, FILL, FREEZE, GET,
+                   IMAGE_CHECK, IMAGE_LOOKUP, IMAGE_PACKET, IMAGE_TALLY, IMAGE_WORDS, INSERT,
+                   LOOKUP, LOOKUP_PACKET, LOOKUP_TALLY, PLACES, PREFIX, READ, RULE_AT, SCAN, START,
                    START_WITH, WORST, Call)
 
 ROOT = Path(__file__).resolve().parent.parent
@@ -23,7 +24,8 @@ ARCHIVE = ROOT / ('target/aarch64' if ARM else 'target/staticlib') / 'libreamsto
 GIVEN = {START: 1, START_WITH: 1, INSERT: 1, DELETE: 1, CHECK: 1, READ: 15,
          RULE_AT: 15, DEAD: 8, WORST: 8, CELLS: 2, LOOKUP: 4,
          LOOKUP_PACKET: 4, LOOKUP_TALLY: 4 + 3 * PLACES, SCAN: 3, PREFIX: 3, CLEAR: 0,
-         DIFFERENCE: 1}
+         DIFFERENCE: 1, IMAGE_WORDS: 2, FREEZE: 1, IMAGE_CHECK: 1, IMAGE_LOOKUP: 4,
+         IMAGE_PACKET: 4, IMAGE_TALLY: 4 + 3 * PLACES}
 # else valgrind leaves out a load whose value is not used, and on Arm no atomic store succeeds
 EVERY = ('--vex-iropt-level=0', *['--sim-hints=fallback-llsc'] * ARM)
 # the C library copies by instructions that a trace has one line for, not one for each byte
@@ -61,10 +63,17 @@ class Script:
         self.calls.append(Call(op, numbers, self.words, self.len, packet, tallies, count))
         self.given += GIVEN[op]
 
-    def packet(self, packet, tallies=()):
+    def packet(self, packet, tallies=(), image=False):
         padded = array('I', packet + bytes(-len(packet) % 4))
-        self.call(LOOKUP_TALLY if tallies else LOOKUP_PACKET, packet=packet, tallies=tallies,
+        ops = (IMAGE_PACKET, IMAGE_TALLY) if image else (LOOKUP_PACKET, LOOKUP_TALLY)
+        self.call(ops[bool(tallies)], packet=packet, tallies=tallies,
                   lent=[*tallies, len(packet), *padded])
+
+    def freeze(self, room, total):
+        """Into that many words; `total` is what the image takes, and the call is not told it."""
+        self.input.extend([FREEZE, room])
+        self.calls.append(Call(FREEZE, (room, total), self.words, self.len, b'', (), 0))
+        self.given += GIVEN[FREEZE]
 
     def scan(self, rules, values):
         records = [x for rule in rules for x in (rule.number, rule.action, *rule.low, *rule.high)]

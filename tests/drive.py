@@ -16,18 +16,24 @@ RESET, MAKE, LEND, SET, GET, DIGEST, SAME, COPY = range(8)
 (START, START_WITH, INSERT, DELETE, CHECK, READ, CELLS, LOOKUP, PACKET, PREFIX, SCAN,
  RULE_AT, DEAD, WORST) = range(16, 30)
 TALLY, CLEAR, DIFFERENCE, RECORDS = range(32, 36)
+IMAGE_WORDS, FREEZE, IMAGE_CHECK, IMAGE_LOOKUP, IMAGE_PACKET, IMAGE_TALLY = range(40, 46)
 RECORD = 3 * 65
 NAMES = {RESET: 'reset', MAKE: 'make', LEND: 'lend', SET: 'set', GET: 'get', DIGEST: 'digest',
          SAME: 'same', COPY: 'copy', START: 'start', START_WITH: 'start_with', INSERT: 'insert',
          DELETE: 'delete', CHECK: 'check', READ: 'read', CELLS: 'cells', LOOKUP: 'lookup',
          PACKET: 'lookup_packet', PREFIX: 'prefix', SCAN: 'scan', RULE_AT: 'rule_at',
          DEAD: 'dead', WORST: 'worst', TALLY: 'lookup_packet_tally',
-         CLEAR: 'tallies_clear', DIFFERENCE: 'tally_difference', RECORDS: 'scan of records'}
+         CLEAR: 'tallies_clear', DIFFERENCE: 'tally_difference', RECORDS: 'scan of records',
+         IMAGE_WORDS: 'image_words', FREEZE: 'freeze', IMAGE_CHECK: 'image_check',
+         IMAGE_LOOKUP: 'image_lookup', IMAGE_PACKET: 'image_lookup_packet',
+         IMAGE_TALLY: 'image_lookup_packet_tally'}
 SIZES = {RESET: 0, MAKE: 0, LEND: 0, SET: 0, DIGEST: 2, SAME: 1, COPY: 0, START: 1, START_WITH: 1,
          INSERT: 1, DELETE: 1, CHECK: 1, READ: 15, CELLS: 2, LOOKUP: 4, PACKET: 4, PREFIX: 3,
          SCAN: 66, RULE_AT: 15, DEAD: 8, WORST: 8, TALLY: 4 + RECORD, CLEAR: RECORD, DIFFERENCE: 1,
-         RECORDS: 3}
-EDITS = (MAKE, LEND, SET, COPY, START, START_WITH, INSERT, DELETE)
+         RECORDS: 3, IMAGE_WORDS: 2, FREEZE: 1, IMAGE_CHECK: 1, IMAGE_LOOKUP: 4, IMAGE_PACKET: 4,
+         IMAGE_TALLY: 4 + RECORD}
+EDITS = (MAKE, LEND, SET, COPY, START, START_WITH, INSERT, DELETE, FREEZE)
+INTO_ANOTHER = (COPY, FREEZE)  # these write the second of two stores
 GUARDED, END_AT_WALL, FRONT_AT_WALL = range(3)
 NO_DIFFERENCE = 0xFFFFFFFF
 
@@ -197,6 +203,28 @@ class Talk:
         self.queue_command(TALLY, (store, len(packet)), want,
                            tail=array('I', record).tobytes() + packet + bytes(-len(packet) % 4))
 
+    def image_words(self, store, want=None):
+        self.queue_command(IMAGE_WORDS, (store,), want)
+
+    def freeze(self, store, image, total, want=None):
+        """An image stands in words like a store's. `total` is how many of them it takes where
+        it is taken: those behind may not change."""
+        self.queue_command(FREEZE, (store, image, total), want)
+
+    def image_check(self, image, want=None):
+        self.queue_command(IMAGE_CHECK, (image,), want)
+
+    def image_lookup(self, image, values, want=None):
+        self.queue_command(IMAGE_LOOKUP, (image,) + tuple(values), want)
+
+    def image_packet(self, image, packet, want=None):
+        self.queue_command(IMAGE_PACKET, (image, len(packet)), want,
+                           tail=packet + bytes(-len(packet) % 4))
+
+    def image_tally(self, image, packet, record, want=None):
+        self.queue_command(IMAGE_TALLY, (image, len(packet)), want,
+                           tail=array('I', record).tobytes() + packet + bytes(-len(packet) % 4))
+
     def clear(self, record, want=None):
         self.queue_command(CLEAR, (), want, tail=array('I', record).tobytes())
 
@@ -241,7 +269,8 @@ class Talk:
             got = PACKERS[size].unpack_from(results, at) if size in PACKERS else array(
                 'I', results[at:at + 4 * size])
             at += 4 * size
-            if START <= op <= PREFIX or op in (RULE_AT, DEAD, WORST, TALLY, RECORDS):
+            if (START <= op <= PREFIX or op in (RULE_AT, DEAD, WORST, TALLY, RECORDS)
+                    or op >= IMAGE_WORDS):
                 self.answers[got[0]] += 1
             if want is None:
                 answers.append(got)
@@ -264,7 +293,7 @@ class Talk:
         op, numbers, tail, _, _ = self.log[place]
         store = numbers[0] if numbers else None
         before = [entry for entry in self.log[:place] if entry[0] in EDITS
-                  and entry[1][1 if entry[0] == COPY else 0] == store]
+                  and entry[1][1 if entry[0] in INTO_ANOTHER else 0] == store]
         lines = ['%s %s' % (spell(op, numbers, tail), what), 'the store came about by:']
         if len(before) > 200:
             lines.append('  .. %d more' % (len(before) - 200))
@@ -273,9 +302,9 @@ class Talk:
 
 def spell(op, numbers, tail):
     text = '%s(%s)' % (NAMES[op], ', '.join(map(str, numbers)))
-    if tail and op == PACKET:
+    if tail and op in (PACKET, IMAGE_PACKET):
         text += ' bytes ' + tail[:numbers[1]][:80].hex()
-    elif op == TALLY:
+    elif op in (TALLY, IMAGE_TALLY):
         text += ' bytes %s record %s' % (tail[4 * RECORD:][:numbers[1]][:80].hex(),
                                          ' '.join(map(str, array('I', tail[:4 * RECORD]))))
     elif tail:

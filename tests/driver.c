@@ -13,6 +13,9 @@
      it, after each accepted start or edit;
    - the bytes of a packet, the ends of a rule and the records of a list, lent
      for reading.
+   The words of an image are kept like a store's: every word of it is seen to
+   after each call that reads it and after each refused freeze, and after an
+   accepted one those behind the total that the command says.
    A store can be laid against memory that can't be read at all, at its
    front or at its end, and a packet, a list of records and a tally record
    always end against such memory, so that a read outside them ends the
@@ -45,7 +48,9 @@ enum {
   START = 16, START_WITH = 17, INSERT = 18, DELETE = 19, CHECK = 20, READ = 21,
   CELLS = 22, LOOKUP = 23, PACKET = 24, PREFIX = 25, SCAN = 26, RULE_AT = 27, DEAD = 28,
   WORST = 29,
-  TALLY = 32, CLEAR = 33, DIFFERENCE = 34, RECORDS = 35
+  TALLY = 32, CLEAR = 33, DIFFERENCE = 34, RECORDS = 35,
+  IMAGE_WORDS = 40, FREEZE = 41, IMAGE_CHECK = 42, IMAGE_LOOKUP = 43, IMAGE_PACKET = 44,
+  IMAGE_TALLY = 45
 };
 
 /* How a store lies in memory. */
@@ -200,6 +205,12 @@ static void compare_late(struct store *s) {
   s->uncompared = 0;
 }
 
+/* After a call that may write the words up to an end, and did. */
+static void accepted(struct store *s, size_t end) {
+  compare_from(s, end < s->lent ? end : s->lent, WROTE_BEHIND);
+  if (s->total) memcpy(s->copy, s->words, 4 * s->total);
+}
+
 static void after_edit(struct store *s, uint32_t answer) {
   calls++;
   give_one(answer);
@@ -208,9 +219,7 @@ static void after_edit(struct store *s, uint32_t answer) {
     compare_from(s, 0, REFUSED_EDIT_WROTE);
     return;
   }
-  size_t end = s->c ? REAMSTORK_WORDS(s->c) : s->lent;
-  compare_from(s, end < s->lent ? end : s->lent, WROTE_BEHIND);
-  if (s->total) memcpy(s->copy, s->words, 4 * s->total);
+  accepted(s, s->c ? REAMSTORK_WORDS(s->c) : s->lent);
 }
 
 /* ---- commands that are no calls ---- */
@@ -313,16 +322,18 @@ static void give_record(void) {
 static void call_packet(struct store *s, uint32_t op) {
   size_t size = next();
   if (size > 2 * BLOCK) stop("packet too long");
-  if (op == TALLY) lend_record();
+  int counts = op == TALLY || op == IMAGE_TALLY;
+  if (counts) lend_record();
   const uint32_t *bytes = next_many((size + 3) / 4);
   uint8_t *packet = packet_end - size;
   memcpy(packet, bytes, size);
-  if (op == PACKET) {
-    give_found(reamstork_lookup_packet(s->words, s->lent, packet, size));
-  } else {
+  if (op == PACKET) give_found(reamstork_lookup_packet(s->words, s->lent, packet, size));
+  if (op == TALLY)
     give_found(reamstork_lookup_packet_tally(s->words, s->lent, packet, size, record));
-    give_record();
-  }
+  if (op == IMAGE_PACKET) give_found(reamstork_image_lookup_packet(s->words, s->lent, packet, size));
+  if (op == IMAGE_TALLY)
+    give_found(reamstork_image_lookup_packet_tally(s->words, s->lent, packet, size, record));
+  if (counts) give_record();
   if (memcmp(packet, bytes, size)) fault(PACKET_WRITTEN, s, 0);
 }
 
@@ -369,9 +380,32 @@ static void look(uint32_t op) {
     const uint32_t *v = next_many(REAMSTORK_FIELDS);
     give_found(reamstork_lookup(s->words, s->lent, v[0], v[1], v[2], v[3], v[4], v[5]));
   }
-  if (op == PACKET || op == TALLY) call_packet(s, op);
+  if (op == IMAGE_WORDS) {
+    reamstork_size size = reamstork_image_words(s->words, s->lent);
+    uint32_t *out = give(2);
+    out[0] = size.answer, out[1] = size.words;
+  }
+  if (op == IMAGE_CHECK) give_one(reamstork_image_check(s->words, s->lent));
+  if (op == IMAGE_LOOKUP) {
+    const uint32_t *v = next_many(REAMSTORK_FIELDS);
+    give_found(reamstork_image_lookup(s->words, s->lent, v[0], v[1], v[2], v[3], v[4], v[5]));
+  }
+  if (op == PACKET || op == TALLY || op == IMAGE_PACKET || op == IMAGE_TALLY) call_packet(s, op);
   if (op == SCAN) scan(s);
   after_reader(s);
+}
+
+static void call_freeze(void) {
+  struct store *s = next_store(), *image = next_store();
+  size_t total = next();
+  if (s == image) stop("a store frozen into itself");
+  compare_late(image);
+  uint32_t answer = reamstork_freeze(s->words, s->lent, image->words, image->lent);
+  give_one(answer);
+  after_reader(s);
+  look_at_guards(image);
+  if (answer) compare_from(image, 0, REFUSED_EDIT_WROTE);
+  else image->c = 0, accepted(image, total);
 }
 
 static void call_prefix(void) {
@@ -444,7 +478,8 @@ static void run_batch(void) {
     else if (op == CLEAR) call_clear();
     else if (op == DIFFERENCE) call_difference();
     else if (op == RECORDS) call_records();
-    else if ((op >= CHECK && op <= WORST) || op == TALLY) look(op);
+    else if (op == FREEZE) call_freeze();
+    else if ((op >= CHECK && op <= WORST) || op == TALLY || (op >= IMAGE_WORDS && op <= IMAGE_TALLY)) look(op);
     else stop("no such command");
   }
   for (size_t i = 0; i < STORES; i++) compare_late(&stores[i]);

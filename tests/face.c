@@ -1,4 +1,4 @@
-/* What the header has beside the calls: the names of the fields, the texts of the answers, a rule that was read handed to a scan and to an insert, and a table listed and loaded again; its examples of packets that are refused; rules that never win; and the worst packet of a table.
+/* What the header has beside the calls: the names of the fields, the texts of the answers, a rule that was read handed to a scan and to an insert, and a table listed and loaded again; its examples of packets that are refused; rules that never win; the worst packet of a table; and its image.
 
        face answers      a line for each answer, number and text
        face version      the version, and the same from its two numbers
@@ -256,6 +256,77 @@ static int worsts(void) {
   return 0;
 }
 
+static int same_found(reamstork_found f, uint32_t answer, uint32_t rule, uint32_t action, uint32_t reads) {
+  return f.answer == answer && f.rule == rule && f.action == action && f.reads == reads;
+}
+
+/* A table frozen, as the header tells of it. */
+static int images(void) {
+  static _Alignas(64) uint32_t image[REAMSTORK_IMAGE_WORDS_MOST(100)], copy[REAMSTORK_IMAGE_WORDS_MOST(100)];
+  static const uint8_t udp[28] = { 0x45,0,0,28, 0,0,0x40,0, 64,17,0,0, 0,0,0,20, 0,0,0,10, 0,50,0,40, 0,8,0,0 };
+  const size_t room = REAMSTORK_IMAGE_WORDS_MOST(100);
+  const uint32_t low[REAMSTORK_FIELDS] = { 10, 20, 17, 40, 50, 0 }, high[REAMSTORK_FIELDS] = { 15, 26, 37, 48, 59, 0 };
+  static reamstork_tallies tallies, full;
+
+  SURE(sizeof(reamstork_size) == 8 && offsetof(reamstork_size, answer) == 0 && offsetof(reamstork_size, words) == 4);
+  SURE(room == 2624 && REAMSTORK_IMAGE_WORDS_MOST(REAMSTORK_CELLS_MAX) == 1049600);
+  SURE(reamstork_start_with(one, len, 100, 8) == REAMSTORK_DONE);
+  SURE(reamstork_image_words(one, len).answer == REAMSTORK_DONE && reamstork_image_words(one, len).words == 1024 + 16 * 6);
+  SURE(reamstork_insert(one, len, 7, 70, low, high) == REAMSTORK_DONE);
+  memcpy(two, one, sizeof one);
+
+  /* 9, then 8; what is refused writes nothing, and neither does the store change */
+  reamstork_size s = reamstork_image_words(one, len);
+  SURE(s.answer == REAMSTORK_DONE && s.words > 1024 && s.words % 16 == 0 && s.words <= REAMSTORK_IMAGE_WORDS_MOST(reamstork_cells(one, len).cells));
+  memset(image, 0x5a, sizeof image);
+  memcpy(copy, image, sizeof image);
+  SURE(reamstork_freeze(one, len - 1, image, 0) == REAMSTORK_BAD_STORE && reamstork_freeze(one, len - 1, image, room) == REAMSTORK_BAD_STORE);
+  SURE(reamstork_freeze(one, len, image, 0) == REAMSTORK_BAD_SIZE && reamstork_freeze(one, len, image, s.words - 1) == REAMSTORK_BAD_SIZE);
+  SURE(reamstork_image_words(one, len - 1).answer == REAMSTORK_BAD_STORE && reamstork_image_words(one, len - 1).words == 0);
+  SURE(memcmp(image, copy, sizeof image) == 0 && memcmp(one, two, sizeof one) == 0);
+
+  /* done: exactly so many words, and those behind them stay */
+  SURE(reamstork_freeze(one, len, image, room) == REAMSTORK_DONE);
+  SURE(memcmp(image + s.words, copy + s.words, sizeof image - 4 * s.words) == 0 && memcmp(one, two, sizeof one) == 0);
+  SURE(reamstork_image_check(image, s.words) == REAMSTORK_DONE);
+  SURE(reamstork_image_check(image, s.words - 1) == REAMSTORK_BAD_STORE && reamstork_image_check(image, s.words + 1) == REAMSTORK_BAD_STORE);
+  SURE(reamstork_image_check(one, len) == REAMSTORK_BAD_STORE && reamstork_check(image, room) == REAMSTORK_BAD_STORE);
+
+  /* the store's rule and action, and a block in each field; 11 before 9 */
+  SURE(same_found(reamstork_image_lookup(image, s.words, 10, 20, 17, 40, 50, 0), REAMSTORK_DONE, 7, 70, 6));
+  SURE(same_found(reamstork_image_lookup(image, room, 15, 26, 37, 48, 59, 0), REAMSTORK_DONE, 7, 70, 6));
+  SURE(same_found(reamstork_image_lookup(image, s.words, 15, 26, 37, 48, 59, 1), REAMSTORK_DONE, REAMSTORK_DEFAULT, 8, 6));
+  SURE(same_found(reamstork_image_lookup(image, s.words, 10, 20, 17, 49, 50, 0), REAMSTORK_DONE, REAMSTORK_DEFAULT, 8, 6));
+  SURE(same_found(reamstork_image_lookup(image, 0, 10, 20, 17, 40, 50, 2), REAMSTORK_BAD_VALUE, 0, 0, 0));
+  SURE(same_found(reamstork_image_lookup(image, 1023, 10, 20, 17, 40, 50, 0), REAMSTORK_BAD_STORE, 0, 0, 0));
+
+  /* by packet, with its refusals first; and counted */
+  SURE(same_found(reamstork_image_lookup_packet(image, s.words, udp, 28), REAMSTORK_DONE, 7, 70, 6));
+  SURE(same_found(reamstork_image_lookup_packet(image, 0, udp, 19), REAMSTORK_UNREADABLE, 0, 0, 0));
+  SURE(same_found(reamstork_image_lookup_packet(image, 0, udp, 24), REAMSTORK_CUT, 0, 0, 0));
+  SURE(same_found(reamstork_image_lookup_packet(image, 0, udp, 28), REAMSTORK_BAD_STORE, 0, 0, 0));
+  SURE(same_found(reamstork_image_lookup_packet_tally(image, s.words, udp, 28, &full), REAMSTORK_NO_PLACE, 0, 0, 0));
+  SURE(same_found(reamstork_image_lookup_packet_tally(image, 0, udp, 28, &full), REAMSTORK_BAD_STORE, 0, 0, 0));
+  reamstork_tallies_clear(&tallies);
+  SURE(same_found(reamstork_image_lookup_packet_tally(image, s.words, udp, 28, &tallies), REAMSTORK_DONE, 7, 70, 6));
+  SURE(tallies.key[0] == 7 && tallies.packets[0] == 1 && tallies.bytes[0] == 28 && tallies.key[1] == REAMSTORK_UNUSED);
+
+  /* copied: the same image; the check cannot see an action, and sees an end */
+  memcpy(copy, image, 4 * s.words);
+  memset(image, 0, sizeof image);
+  SURE(reamstork_image_check(copy, s.words) == REAMSTORK_DONE);
+  SURE(same_found(reamstork_image_lookup(copy, s.words, 10, 20, 17, 40, 50, 0), REAMSTORK_DONE, 7, 70, 6));
+  copy[47 + 15 + 1] ^= 1;
+  SURE(reamstork_image_check(copy, s.words) == REAMSTORK_DONE);
+  copy[1024] ^= 1;
+  SURE(reamstork_image_check(copy, s.words) == REAMSTORK_BAD_STORE);
+
+  /* after an edit there is another image, of the table as it is */
+  SURE(reamstork_delete(one, len, 7) == REAMSTORK_DONE && reamstork_freeze(one, len, image, room) == REAMSTORK_DONE);
+  SURE(same_found(reamstork_image_lookup(image, room, 10, 20, 17, 40, 50, 0), REAMSTORK_DONE, REAMSTORK_DEFAULT, 8, 6));
+  return 0;
+}
+
 int main(int argc, char **argv) {
   const char *what = argc > 1 ? argv[1] : "";
 
@@ -268,5 +339,5 @@ int main(int argc, char **argv) {
     printf("%s\n%d.%d\n", REAMSTORK_VERSION, REAMSTORK_VERSION_MAJOR, REAMSTORK_VERSION_MINOR);
     return 0;
   }
-  return rules() || packets() || lives() || worsts();
+  return rules() || packets() || lives() || worsts() || images();
 }

@@ -81,6 +81,7 @@ def question(talk, rng, store, lent, table):
     for number in (DEFAULT, rng.choice(table).number, 65536):
         talk.dead(store, number)
     talk.worst(store)
+    talk.image_words(store)
     for _ in range(4):
         values = values_near(rng, table)
         asked += [(0, values)] * 2
@@ -97,8 +98,8 @@ def question(talk, rng, store, lent, table):
 def judge(results, asked, lent):
     """Judges the answers to one question; says whether the check passed."""
     check, cells = results[0], results[1]
-    reads, lives, worst = results[2:8], results[8:11], results[11]
-    lookups = results[12:12 + len(asked)]
+    reads, lives, worst, size = results[2:8], results[8:11], results[11], results[12]
+    lookups = results[13:13 + len(asked)]
     expect(check in ((0,), (9,)), 'the check gave %s' % (check,))
     passed = check == (0,)
     if not passed:
@@ -109,7 +110,10 @@ def judge(results, asked, lent):
         for life in lives:
             expect(life == (9,) + (0,) * 7, 'dead gave %s where the check gives 9' % (life,))
         expect(worst == (9,) + (0,) * 7, 'worst gave %s where the check gives 9' % (worst,))
+        expect(size == (9, 0), 'image_words gave %s where the check gives 9' % (size,))
     else:
+        expect(size[0] == 0 and 6 <= (size[1] - 1024) / 16 <= cells[1],
+               'image_words gave %s in a store that passes' % (size,))
         expect(lives[0][0] == 0 and lives[1][0] in (0, 4) and lives[2] == (1,) + (0,) * 7,
                'dead gave %s in a store that passes' % (lives,))
         expect(worst[0] == 0 and walk(lent, worst[2:])[::3] == worst[:2],
@@ -129,11 +133,13 @@ def judge(results, asked, lent):
 
 
 def hostile_edits(talk, rng, store, world, table, want):
-    """Edits over a store that fails the check: 9, and no word changed."""
+    """Edits over a store that fails the check, and a freeze of it: 9, and no word changed."""
     talk.insert(store, world.rule(), want)
     talk.insert(store, world.bad_rule([rule.number for rule in table]), want)
     talk.delete(store, rng.choice(table).number, want)
     talk.delete(store, rng.choice((65535, 65536, rng.randrange(65535))), want)
+    talk.freeze(store, talk.make(rng.choice((0, 1120, 3000)), rng.choice(HOWS)), 0, want)
+    talk.stores -= 1
 
 
 def account_of(talk, rng, store, c, words):

@@ -13,6 +13,9 @@ NARROW = ((1, 1, 1, 1, 1, 0), TOPS[:5] + (0,))
 CROSSED = ((1, 0, 0, 0, 0, 0), (0,) + TOPS[1:])
 PORTS_OF_ALL = ((0, 0, 0, 1, 0, 0), TOPS)
 
+# The words of images: of the bench table, which has 41 chains, and of the default alone.
+BENCH_IMAGE, LEAST_IMAGE = 1024 + 16 * 41, 1024 + 16 * 6
+
 
 def bench_table(talk, rng):
     """Document 01's bench table, its numbers written out here and not taken
@@ -28,9 +31,16 @@ def bench_table(talk, rng):
             if rule is order[0]:
                 talk.cells(store.id, (0, 33 if rule is ten else 18))
         talk.cells(store.id, (0, 54))
+        talk.image_words(store.id, (0, BENCH_IMAGE))
+        image = talk.make(BENCH_IMAGE)
+        talk.freeze(store.id, image, BENCH_IMAGE, 0)
+        talk.image_check(image, 0)
         for row in BENCH_LOOKUPS:
             talk.lookup(store.id, bench_values(row), row[3])
             talk.packet(store.id, packet_of(bench_values(row)), row[3])
+            # no chain has more than 8 ends: a block in each field
+            talk.image_lookup(image, bench_values(row), row[3][:3] + (6,))
+            talk.image_packet(image, packet_of(bench_values(row)), row[3][:3] + (6,))
         talk.worst(store.id, (0, 11, address('10.0.0.128'), 0, 17, 5000, 0, 1))
         # the first row's packet as a later fragment and as ICMP, and its values without ports
         first = bench_values(BENCH_LOOKUPS[0])
@@ -116,6 +126,7 @@ def every_length(talk, rng):
     store.insert(Rule(7, 9, *FULL))
     readable, values = packet_of((1, 2, 17, 4, 5)), (1, 2, 17, 4, 5, 0)
     short = Store(talk, n + 8)
+    image = talk.make(LEAST_IMAGE + 1)
     for length in range(n + 9):
         talk.lend(store.id, length)
         talk.lend(short.id, length)
@@ -131,6 +142,11 @@ def every_length(talk, rng):
                              (65536, (1,) + (0,) * 7)):
             talk.dead(store.id, number, life if good else (9,) + (0,) * 7)
         talk.worst(store.id, (0, 6) + (0,) * 6 if good else (9,) + (0,) * 7)
+        talk.image_words(store.id, (0, LEAST_IMAGE) if good else (9, 0))
+        for room in (0, LEAST_IMAGE - 1, LEAST_IMAGE):
+            talk.lend(image, room)
+            talk.freeze(store.id, image, LEAST_IMAGE,
+                        9 if not good else 0 if room == LEAST_IMAGE else 8)
         talk.lookup(store.id, values, (0, 7, 9, 6) if good else (9, 0, 0, 0))
         talk.lookup(store.id, (1, 2, 256, 4, 5, 0), (11, 0, 0, 0))
         talk.packet(store.id, readable, (0, 7, 9, 6) if good else (9, 0, 0, 0))
@@ -281,6 +297,14 @@ def seven_before_nine(talk, rng):
             talk.lookup(store, (1, 2, 255, 3, 65536, 1), (11, 0, 0, 0))
             talk.lookup(store, (1, 2, 255, 3, 65535, 2), (11, 0, 0, 0))
             talk.lookup(store, (1, 2, 255, 3, 65535, 1), (9, 0, 0, 0))
+            talk.image_packet(store, packet_of((1, 2, 6, 3, 4))[:19], (7, 0, 0, 0))
+            talk.image_packet(store, packet_of((1, 2, 6, 3, 4))[:20], (14, 0, 0, 0))
+            talk.image_packet(store, packet_of((1, 2, 6, 3, 4)), (9, 0, 0, 0))
+            talk.image_lookup(store, (1, 2, 256, 3, 4, 0), (11, 0, 0, 0))
+            talk.image_lookup(store, (1, 2, 255, 3, 4, 2), (11, 0, 0, 0))
+            talk.image_lookup(store, (1, 2, 255, 3, 65535, 1), (9, 0, 0, 0))
+            talk.image_check(store, 9)
+            talk.image_words(store, (9, 0))
             talk.check(store, 9)
             talk.cells(store, (9, 0))
             talk.worst(store, (9,) + (0,) * 7)

@@ -3,6 +3,7 @@ have it: the rules that trace.py holds a trace to."""
 
 from collections import Counter, namedtuple
 
+from image import BLOCK, DEEPEST, DOWN, KEYS
 from laid import CELL, HEAD, ROW
 from reference import LEAST_CELLS, MOST_CELLS, read_header
 
@@ -15,6 +16,8 @@ KIND, MARK = 2, 0              # the word that names the kind, and what it says
 FRONT_LOADS = (0, 1, KIND, BEGIN) # what every lookup loads of the front, besides the rule's row
 RULE_LOADS = (0, 1)            # what it loads of that row: number and action
 FIXED = len(FRONT_LOADS) + len(RULE_LOADS)
+IMAGE_LOADS = (1, KIND)        # what every lookup over an image loads of its front, besides the row
+LINE = 16                      # words of a line of 64 bytes
 LINKS = 3                      # the words of a cell that a search takes: end, next and down
 NEXT = 1                       # the one of them that leads on in a chain
 RECORD = 14                    # words of a record of a list
@@ -25,9 +28,12 @@ HEADER_BYTES = {0, 2, 3, 6, 7, 9, *range(12, 20)}
 
 # The commands of trace.c, and where it puts what it lends.
 (FILL, GET, START, START_WITH, INSERT, DELETE, CHECK, READ, RULE_AT, DEAD, WORST, CELLS, LOOKUP,
- LOOKUP_PACKET, LOOKUP_TALLY, SCAN, PREFIX, CLEAR, DIFFERENCE) = range(19)
+ LOOKUP_PACKET, LOOKUP_TALLY, SCAN, PREFIX, CLEAR, DIFFERENCE, IMAGE_WORDS, FREEZE, IMAGE_CHECK,
+ IMAGE_LOOKUP, IMAGE_PACKET, IMAGE_TALLY) = range(25)
+IMAGE_CALLS = (IMAGE_CHECK, IMAGE_LOOKUP, IMAGE_PACKET, IMAGE_TALLY)  # their words are an image's
 BASE, SIZE = 0x300000000, 0x100000
 ENDS, TALLIES, PACKET, RECORDS, STORE = 0x1000, 0x2000, 0x4000, 0x8000, 0x10000
+IMAGE = 0x80000
 STACK = 1 << 20
 
 # A call: what it is asked, the words of the store before it and how many are lent, and what else
@@ -83,6 +89,8 @@ def units(accesses, first, count, unit):
 
 
 def name(place):
+    if place >= IMAGE:
+        return 'word %d from the start of the image' % ((place - IMAGE) // 4)
     if place >= STORE:
         return 'word %d from the start of the store' % ((place - STORE) // 4)
     return 'byte %#x of what is lent' % place
@@ -96,7 +104,9 @@ def room_in(call):
 
 
 def size_of(call):
-    """The words of a call's store: behind them nothing may be touched."""
+    """The words of a call's store or image: behind them nothing may be touched."""
+    if call.op in IMAGE_CALLS:
+        return call.len
     if call.op in (START, START_WITH):
         c = call.numbers[0]
         fits = LEAST_CELLS <= c <= MOST_CELLS and FRONT + CELL * c <= call.len
@@ -154,13 +164,71 @@ def see_walk(call, values, touched, result):
                differences(loaded - cells, front))
 
 
+def image_walk(call, values):
+    """The blocks of each field that a walk over any words reads, each with the place of the link
+    that is taken, 8 for none, and the place that it comes to: none where it is lost."""
+    words, fields, block = call.words[:call.len], [], 0
+    if call.len < FRONT or words[KIND] != MARK:
+        return [], None
+    for value in values:
+        fields.append([])
+        while True:
+            at = FRONT + BLOCK * block
+            if len(fields[-1]) == DEEPEST or at + BLOCK > call.len:
+                return fields, None
+            passed = sum(end < value for end in words[at:at + KEYS])
+            fields[-1].append((block, passed))
+            if passed == KEYS:
+                return fields, None
+            block = words[at + KEYS + passed]
+            if block >= DOWN:
+                break
+        block -= DOWN
+    place, rest = divmod(block, ROW)
+    return fields, place if not rest and place <= min(words[1], PLACES - 1) else None
+
+
+def see_image_walk(call, values, touched, result):
+    """Each block that is counted is loaded once, its ends and the one link that is taken; of the
+    front two words and two of the row. So where the image is aligned to lines, a line is touched
+    for each block, and at most three of the front."""
+    fields, place = image_walk(call, values)
+    loaded = touched.loaded(STORE, call.len)
+    blocks = Counter()
+    for block, passed in (read for field in fields for read in field):
+        at = FRONT + BLOCK * block
+        blocks.update(range(at, at + KEYS))
+        blocks.update([at + KEYS + passed] * (passed < KEYS))
+    front = Counter(IMAGE_LOADS)
+    reads = sum(map(len, fields))
+    lines = {i // LINE for i in loaded}
+    expect(len(lines) <= reads + 3, 'it touches %d lines for %d blocks', len(lines), reads)
+    expect(all(len(field) <= DEEPEST for field in fields), 'the walk goes on in a field')
+    if place is not None:
+        front.update(HEAD + ROW * place + part for part in RULE_LOADS)
+        expect(result[3] == reads or result[0], 'it counts %d blocks, not %d', result[3], reads)
+        expect(loaded == blocks + front, 'it loads other words than those of a lookup: %s',
+               differences(loaded, blocks + front))
+    else:
+        in_blocks = Counter({i: n for i, n in loaded.items() if i >= FRONT})
+        if fields and len(fields[-1]) == DEEPEST and fields[-1][-1][1] < KEYS:
+            # it stops after 8 blocks, and need not load where the last one leads
+            block, passed = fields[-1][-1]
+            unused = Counter([FRONT + BLOCK * block + KEYS + passed])
+            blocks -= unused - (in_blocks - (blocks - unused))
+        expect(in_blocks == blocks, 'it loads other words of blocks than those of the walk: %s',
+               differences(in_blocks, blocks))
+        expect(not loaded - blocks - front, 'it loads more of the front than a lookup: %s',
+               differences(loaded - blocks, front))
+
+
 def see_lookup(call, touched, values, result, *lent):
     expect(not touched.stored(STORE, call.len), 'it writes words of the store')
     touched.only((STORE, 4 * size_of(call)), *lent)
     if result[0] in (7, 11, 14):
         expect(not touched.loaded(STORE, call.len), 'refused, it reads words of the store')
     else:
-        see_walk(call, values, touched, result)
+        (see_image_walk if call.op in IMAGE_CALLS else see_walk)(call, values, touched, result)
 
 
 def see_packet(call, touched, result, *lent):
@@ -180,7 +248,8 @@ def see_tally(call, touched, result):
     """The keys are gone over once, up to the one that is held; one place is written."""
     keys = call.tallies[:PLACES]
     values = read_header(call.packet)[1]
-    row = None if values is None else walk(call, values)[1]
+    way = image_walk if call.op == IMAGE_TALLY else walk
+    row = None if values is None else way(call, values)[1]
     loads = stores = Counter()
     if row is not None:
         number = call.words[HEAD + ROW * row]
@@ -220,6 +289,19 @@ def see_edit(call, touched, result):
 def see_reader(call, touched, result):
     touched.only((STORE, 4 * size_of(call)))
     expect(not touched.stores, 'it writes words of the store')
+
+
+def see_freeze(call, touched, result):
+    """Every word of the image is written and none behind it; with a refusal none is touched."""
+    room, total = call.numbers
+    taken = result[0] == 0
+    touched.only((STORE, 4 * size_of(call)), (IMAGE, 4 * total * taken))
+    expect(not touched.stored(STORE, call.len), 'it writes words of the store')
+    expect(result[0] == (0 if room >= total else 8) or result[0] == 9,
+           'it answers %d for a slice of %d words, and the total is %d', result[0], room, total)
+    stored = touched.stored(IMAGE, room)
+    expect(set(stored) == set(range(total * taken)), 'it writes other words of the image: %s',
+           differences(set(stored), set(range(total * taken))))
 
 
 # The words over which the check was seen last, and how often it loads each of them: that is the
@@ -262,7 +344,7 @@ def see_worst(call, touched, result):
 
 def see(call, touched, result):
     """Raises a Fault where a call does not touch what it should, or more."""
-    if call.op == LOOKUP:
+    if call.op in (LOOKUP, IMAGE_LOOKUP):
         see_lookup(call, touched, call.numbers, result)
     elif call.op == CLEAR:
         touched.only((TALLIES, 12 * PLACES))
@@ -271,4 +353,6 @@ def see(call, touched, result):
     else:
         {LOOKUP_PACKET: see_packet, LOOKUP_TALLY: see_tally, SCAN: see_scan, CHECK: see_check,
          READ: see_reader, RULE_AT: see_reader, DEAD: see_dead, WORST: see_worst,
-         CELLS: see_reader}.get(call.op, see_edit)(call, touched, result)
+         CELLS: see_reader, IMAGE_WORDS: see_reader, IMAGE_CHECK: see_reader, FREEZE: see_freeze,
+         IMAGE_PACKET: see_packet, IMAGE_TALLY: see_tally}.get(call.op, see_edit)(
+             call, touched, result)

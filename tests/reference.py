@@ -141,6 +141,48 @@ def worst_record(rules):
     return worst(tuple(range(len(rules))), 0)
 
 
+def levels(m):
+    """The blocks of one field that a lookup over the image reads: the least L of at least 1
+    with 8^L not below m."""
+    least = 1
+    while 8 ** least < m:
+        least += 1
+    return least
+
+
+def winner_and_blocks(rules, values):
+    """The winner as above, and the blocks read, summed over the fields: m is the number of
+    distinct ends of the rules that hold the earlier values."""
+    blocks = 0
+    for field, value in enumerate(values):
+        blocks += levels(len({end for rule in rules for end in ends(rule, field)}))
+        rules = [rule for rule in rules if rule.low[field] <= value <= rule.high[field]]
+    return min(rules, key=lambda rule: rule.number), blocks
+
+
+def count_blocks(rules):
+    """The blocks of an image: under each location m ends take ceil(m / 8) blocks, these as
+    many links above them, and so on until one is left."""
+    seen = {}
+
+    def under(held, field):
+        if field == len(TOPS):
+            return 0
+        if (held, field) not in seen:
+            distinct = {end for i in held for end in ends(rules[i], field)}
+            total, level = 0, len(distinct)
+            while level > 1 or not total:
+                level = -(-level // 8)
+                total += level
+            for end in distinct:
+                total += under(tuple(i for i in held if rules[i].low[field] <= end
+                                     <= rules[i].high[field]), field + 1)
+            seen[held, field] = total
+        return seen[held, field]
+
+    return under(tuple(range(len(rules))), 0)
+
+
 def range_fault(low, high):
     """What gets 2: a low end above its high end, a high end above the top, or a
     narrow port range with anything but 0 to 0 in field 6."""
@@ -246,6 +288,23 @@ class Account:
         if answer:
             return (answer, 0, 0, 0)
         return self.lookup(values)
+
+    def image_words(self):
+        """(answer, words): 1,024 in front and 16 for each block."""
+        return (DONE, 1024 + 16 * count_blocks(self.table()))
+
+    def image_lookup(self, values):
+        """As a lookup, over the image of this store: the last number counts blocks."""
+        if any(value > top for value, top in zip(values, TOPS)):
+            return (ABOVE_TOP, 0, 0, 0)
+        rule, blocks = winner_and_blocks(self.table(), values)
+        return (DONE, rule.number, rule.action, blocks)
+
+    def image_lookup_packet(self, packet):
+        answer, values = read_header(packet)
+        if answer:
+            return (answer, 0, 0, 0)
+        return self.image_lookup(values)
 
 
 # ---- tallies ------------------------------------------------------------

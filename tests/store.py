@@ -73,6 +73,7 @@ class Store:
         self.dead(rng.choice(numbers + [DEFAULT]))
         self.dead(rng.choice((DEFAULT, 65534, 65536, 2 ** 32 - 1, rng.randrange(65535))))
         self.worst()
+        talk.image_words(self.id, account.image_words())
         table = account.table()
         for _ in range(lookups):
             values = values_near(rng, table)

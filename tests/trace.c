@@ -21,9 +21,10 @@
 /* Known to trace.py as well. */
 #define BASE 0x300000000u
 enum { ENDS = 0x1000, TALLIES = 0x2000, PACKET = 0x4000, RECORDS = 0x8000, STORE = 0x10000,
-       SIZE = 0x100000, PATTERN = 0xA5 };
+       IMAGE = 0x80000, SIZE = 0x100000, PATTERN = 0xA5 };
 enum { FILL, GET, START, START_WITH, INSERT, DELETE, CHECK, READ, RULE_AT, DEAD, WORST, CELLS,
-       LOOKUP, LOOKUP_PACKET, LOOKUP_TALLY, SCAN, PREFIX, CLEAR, DIFFERENCE };
+       LOOKUP, LOOKUP_PACKET, LOOKUP_TALLY, SCAN, PREFIX, CLEAR, DIFFERENCE, IMAGE_WORDS, FREEZE,
+       IMAGE_CHECK, IMAGE_LOOKUP, IMAGE_PACKET, IMAGE_TALLY };
 
 extern char __executable_start, end;
 
@@ -82,25 +83,42 @@ static void look(uint32_t op) {
   if (op == DEAD) { CALL(reamstork_life, reamstork_dead(words, len, a)); }
   if (op == WORST) { CALL(reamstork_most, reamstork_worst(words, len)); }
   if (op == CELLS) { CALL(reamstork_count, reamstork_cells(words, len)); }
+  if (op == IMAGE_WORDS) { CALL(reamstork_size, reamstork_image_words(words, len)); }
+  if (op == IMAGE_CHECK) { CALL(uint32_t, reamstork_image_check(words, len)); }
 }
 
-static void lookup(void) {
+/* Into as many words as are said, all full of the pattern. */
+static void freeze(void) {
+  uint32_t *image = (void *)(lent + IMAGE);
+  size_t image_len = next();
+  if (IMAGE + 4 * image_len > SIZE) stop("too many words");
+  memset(image, PATTERN, SIZE - IMAGE);
+  CALL(uint32_t, reamstork_freeze(words, len, image, image_len));
+}
+
+static void lookup(uint32_t op) {
   uint32_t a = next(), b = next(), c = next(), d = next(), e = next(), f = next();
-  CALL(reamstork_found, reamstork_lookup(words, len, a, b, c, d, e, f));
+  if (op == LOOKUP) { CALL(reamstork_found, reamstork_lookup(words, len, a, b, c, d, e, f)); }
+  else { CALL(reamstork_found, reamstork_image_lookup(words, len, a, b, c, d, e, f)); }
 }
 
 static void lookup_packet(uint32_t op) {
   reamstork_tallies *tallies = (void *)(lent + TALLIES);
-  if (op == LOOKUP_TALLY) lend(TALLIES, sizeof *tallies / 4);
+  int counts = op == LOOKUP_TALLY || op == IMAGE_TALLY;
+  if (counts) lend(TALLIES, sizeof *tallies / 4);
   size_t size = next();
   uint8_t *packet = lend(PACKET, (size + 3) / 4);
   memset(packet + size, PATTERN, 4);
   if (op == LOOKUP_PACKET) {
     CALL(reamstork_found, reamstork_lookup_packet(words, len, packet, size));
-  } else {
+  } else if (op == LOOKUP_TALLY) {
     CALL(reamstork_found, reamstork_lookup_packet_tally(words, len, packet, size, tallies));
-    give(tallies, sizeof *tallies / 4);
+  } else if (op == IMAGE_PACKET) {
+    CALL(reamstork_found, reamstork_image_lookup_packet(words, len, packet, size));
+  } else {
+    CALL(reamstork_found, reamstork_image_lookup_packet_tally(words, len, packet, size, tallies));
   }
+  if (counts) give(tallies, sizeof *tallies / 4);
 }
 
 static void scan(void) {
@@ -122,7 +140,7 @@ static void small(uint32_t op) {
   }
 }
 
-/* The words of the store, and how many are lent of those from its first on. */
+/* The words of the store, or of an image, and how many are lent of those from its first on. */
 static void fill(void) {
   len = next();
   size_t n = next();
@@ -135,9 +153,10 @@ static void run(uint32_t op) {
   if (op == FILL) fill();
   else if (op == GET) n = next(), give(words, n);
   else if (op <= DELETE) edit(op);
-  else if (op <= CELLS) look(op);
-  else if (op == LOOKUP) lookup();
-  else if (op <= LOOKUP_TALLY) lookup_packet(op);
+  else if (op <= CELLS || op == IMAGE_WORDS || op == IMAGE_CHECK) look(op);
+  else if (op == LOOKUP || op == IMAGE_LOOKUP) lookup(op);
+  else if (op <= LOOKUP_TALLY || op == IMAGE_PACKET || op == IMAGE_TALLY) lookup_packet(op);
+  else if (op == FREEZE) freeze();
   else if (op == SCAN) scan();
   else if (op <= DIFFERENCE) small(op);
   else stop("no such command");

@@ -17,12 +17,17 @@ records and lists. Of each call is seen (loads.py):
 - A lookup that is refused with 7, 11 or 14 touches no word of the store.
 - Of a packet it loads the bytes that TIMING names. Of a tally record it loads the keys
   once, up to the one that is held, and writes the one place that counts.
+- A lookup over an image, by values, by packet or with tallies, loads two words of the front, two
+  of the rule's row, and of each block that it counts the eight ends and one link: 4 + 9 x blocks
+  words. So it touches a line of 64 bytes for each block and at most three more. Over damaged
+  words it loads the blocks of the walk, at most 8 in a field, and no others. It writes none.
+- A freeze writes every word of its image and none behind them; refused, it touches none.
 - A scan loads words of every record of its list, no more than the list has, and touches
   nothing else that could be lent.
 - Dead and worst go over the cells once for the check. Then dead goes at most once through the
   tree, and worst once.
-- Check, read, rule_at, dead, worst and cells write nothing; nor does a start or an edit that is
-  refused.
+- Check, read, rule_at, dead, worst, cells, image_words and image_check write nothing; nor does a
+  start or an edit that is refused.
 - No call touches a word behind its store or in front of it, nor any memory but what
   it was lent, its stack, and for loads the program's constants.
 
@@ -37,7 +42,9 @@ import time
 from collections import Counter
 
 from calls import ARCHIVE, Program, Script, cannot
-from loads import (BEGIN, CELL, CELLS, CHECK, CLEAR, DEAD, DELETE, DIFFERENCE, FRONT, INSERT,
+from image import BLOCK, DOWN, KEYS, image
+from loads import (BEGIN, CELL, CELLS, CHECK, CLEAR, DEAD, DELETE, DIFFERENCE, FREEZE, FRONT,
+                   IMAGE_CHECK, IMAGE_LOOKUP, IMAGE_PACKET, IMAGE_TALLY, IMAGE_WORDS, INSERT,
                    LOOKUP, LOOKUP_PACKET, LOOKUP_TALLY, PLACES, PREFIX, READ, RULE_AT, SCAN, START,
                    START_WITH, WORST, Fault, Touched, see)
 from reference import DEFAULT, LEAST_CELLS, TOPS, Rule, default_rule
@@ -52,7 +59,11 @@ CALLS = {
     LOOKUP: ('lookup', {0, 9, 11}), LOOKUP_PACKET: ('lookup_packet', {0, 7, 9, 14}),
     LOOKUP_TALLY: ('lookup_packet_tally', {0, 7, 9, 13, 14}), SCAN: ('scan', {0, 11}),
     PREFIX: ('prefix', {0, 10}), CLEAR: ('tallies_clear', set()),
-    DIFFERENCE: ('tally_difference', set())}
+    DIFFERENCE: ('tally_difference', set()), IMAGE_WORDS: ('image_words', {0, 9}),
+    FREEZE: ('freeze', {0, 8, 9}), IMAGE_CHECK: ('image_check', {0, 9}),
+    IMAGE_LOOKUP: ('image_lookup', {0, 9, 11}),
+    IMAGE_PACKET: ('image_lookup_packet', {0, 7, 9, 14}),
+    IMAGE_TALLY: ('image_lookup_packet_tally', {0, 7, 9, 13, 14})}
 BEHIND = 0xA5A5A5A5
 FULL = (0,) * 6, TOPS
 
@@ -118,18 +129,20 @@ def some_record(rng, rules):
     return (*keys, *(rng.getrandbits(32) for _ in range(2 * PLACES)))
 
 
-def lookups(script, rng, rules, count):
+def lookups(script, rng, rules, count, image=False):
+    """Lookups over the words of a store, or of an image."""
+    op = IMAGE_LOOKUP if image else LOOKUP
     for _ in range(count):
         values = values_near(rng, rules)
-        script.call(LOOKUP, *values)
-        script.packet(packet_of(values))
-        script.packet(random_packet(rng, rules))
-        script.packet(random_packet(rng, rules), some_record(rng, rules))
+        script.call(op, *values)
+        script.packet(packet_of(values), image=image)
+        script.packet(random_packet(rng, rules), image=image)
+        script.packet(random_packet(rng, rules), some_record(rng, rules), image)
     # cut short: to the first 20 bytes, and anywhere behind them
-    script.packet(packet_of(values)[:20])
-    script.packet(packet_of(values, behind=bytes(20))[:rng.randint(20, 43)])
-    script.packet(packet_of(values)[:rng.randint(20, 23)], some_record(rng, rules))
-    script.call(LOOKUP, *values_above(rng, values))
+    script.packet(packet_of(values)[:20], image=image)
+    script.packet(packet_of(values, behind=bytes(20))[:rng.randint(20, 43)], image=image)
+    script.packet(packet_of(values)[:rng.randint(20, 23)], some_record(rng, rules), image)
+    script.call(op, *values_above(rng, values))
 
 
 def readers(script, rng, rules):
@@ -184,6 +197,7 @@ def over_table(script, rng, c, rules, words):
     if c > 300:
         return
     readers(script, rng, rules)
+    freezes(script, len(image(tuple(rules))))
     refused_edits(script, rng, rules)
     taken_edits(script, rng, c, rules, words)
 
@@ -199,6 +213,7 @@ def over_damage(script, rng, c, rules, words):
     for length in (len(words), rng.choice((len(words) - 1, FRONT, 1, 0))):
         script.fill(bad, length)
         readers(script, rng, rules)
+        freezes(script, len(image(tuple(rules))))
         refused_edits(script, rng, rules)
         lookups(script, rng, rules, 1)
 
@@ -218,12 +233,67 @@ def over_maze(script, rng, c, rules, words):
     script.packet(packet_of((0, 0, 0, 0, 0)))
 
 
+def freezes(script, total):
+    """Into too few words, into as many as the image takes, and into more."""
+    script.call(IMAGE_WORDS)
+    for room in (0, FRONT, total - 1, total, total + 9):
+        script.freeze(room, total)
+
+
+def over_image(script, rng, c, rules, words):
+    """The image of a table, the same damaged, and cut."""
+    words = list(image(tuple(rules)))
+    script.fill(words + [BEHIND] * rng.choice((0, 1, 16)))
+    lookups(script, rng, rules, 6, image=True)
+    if c <= 300:
+        for length in (len(words), len(words) - 1, FRONT, 0):
+            script.fill(words, length)
+            script.call(IMAGE_CHECK)
+    blocks = (len(words) - FRONT) // BLOCK
+    for _ in range(3):
+        bad = list(words)
+        for _ in range(rng.choice((1, 5, 40, 200))):
+            place = FRONT + BLOCK * rng.randrange(blocks) + KEYS + rng.randrange(4)
+            bad[place] = rng.choice((0, 0, DOWN)) + rng.choice((
+                0, rng.randrange(blocks), blocks, place // BLOCK - FRONT // BLOCK))
+            bad[place - KEYS] = rng.choice((0, 1, bad[place - KEYS], rng.getrandbits(32)))
+        bad[1] = rng.choice((bad[1], 0, 65))
+        script.fill(bad, rng.choice((len(bad),) * 4 + (len(bad) - 1, FRONT, FRONT - 1, 2)))
+        lookups(script, rng, rules, 3, image=True)
+        if c <= 300:
+            script.call(IMAGE_CHECK)
+
+
+def over_rings(script, rng, words):
+    """Blocks that lead round: in each field 8 of them and no more, and 8 that lead down."""
+    front = words[:FRONT]
+    for step in (1, 2, 7, 8, 9):
+        blocks = [[0xFFFFFFFF] * KEYS + [b + 1 if (b + 1) % step else DOWN + b + 1] * KEYS
+                  for b in range(6 * step)]
+        blocks[-1][KEYS:] = [DOWN] * KEYS
+        script.fill(front + sum(blocks, []) + [BEHIND] * 8)
+        lookups(script, rng, [default_rule(7)], 2, image=True)
+        # the same from the last block back to the first one of its field
+        blocks[-1][KEYS:] = [6 * step - step] * KEYS
+        script.fill(front + sum(blocks, []) + [BEHIND] * 8)
+        lookups(script, rng, [default_rule(7)], 1, image=True)
+    # in one field all ends are below the value
+    for field in range(6):
+        blocks = [[0 if b == field else 0xFFFFFFFF] * KEYS + [DOWN + b + 1] * KEYS
+                  for b in range(6)]
+        script.fill(front + sum(blocks, []))
+        script.call(IMAGE_LOOKUP, *(1,) * 6)
+        script.packet(packet_of((1, 1, 1, 1, 1)), image=True)
+
+
 def all_calls(program, rng, count):
     script = Script()
     made = list(tables(program, rng, count))
     for table in made:
         over_table(script, rng, *table)
         over_damage(script, rng, *table)
+        over_image(script, rng, *table)
+    over_rings(script, rng, list(image((default_rule(7),))))
     for table in made[:2]:
         over_maze(script, rng, *table)
     for numbers in ((0x0a000000, 24), (0x0a000001, 24), (0, 33)):
@@ -255,7 +325,7 @@ def hold(program, script, stop):
                 print('FAILED: %s gave %s: %s' % (spell(call), list(result[:4]), fault))
     for op, (name, want) in CALLS.items():
         answers = ', '.join('%d: %d' % pair for pair in sorted(seen[op].items()))
-        print('%-20s %6d calls, by answer %s' % (name, sum(seen[op].values()), answers))
+        print('%-26s %6d calls, by answer %s' % (name, sum(seen[op].values()), answers))
         if want - set(seen[op]):
             failed += 1
             print('FAILED: no %s was answered %s' % (name, sorted(want - set(seen[op]))))

@@ -26,7 +26,7 @@ pub fn room_for(words: &[u32], c: u32, tops: &[u32], shape: Shape) -> bool
 }
 
 // Whether the rows are those of a table of n rules within the limits.
-fn table_is(rows: &[u32], n: u32, tops: &[u32], shape: Shape) -> bool
+pub fn table_is(rows: &[u32], n: u32, tops: &[u32], shape: Shape) -> bool
     requires { ⌜ Rowed (kindOf (now tops) shape) n (now rows) ⌝ }
     ensures { λ r. ⌜ r ≡ tableStands (kindOf (now (tops .entry)) shape) n (now (rows .entry)) ⌝ }
 {

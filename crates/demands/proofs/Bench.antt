@@ -1,30 +1,31 @@
 -- The starred list holds of the words. Each call is followed by the laws of a store; what is computed is the answer for a table, never a store's words.
 -- Assumes nothing.
 use mathlib.Core.Path.{_≡_, refl, ap, ap₂, _∙_}
-use mathlib.Core.Bool.{cond}
+use mathlib.Core.Bool.{true, cond}
 use mathlib.Core.List.{List, [], _∷_, map}
 use Prim.Native.Nat.{ℕ, _≤_}
 use native.Mathlib.Omega.{arith}
 use lib.Dec.{ltb}
 use lib.ListN.{length}
 use borrow.Author.Tests.{le-ltb}
-use Rattle.model.specs.Bench.{rule10, rule20, rows, decided, starred, packet, fresh as alone, both as rules}
-use Rattle.model.specs.Table.{Rule, Table, startAction, withRule, without, insertAnswer, deleteAnswer, cellsOf}
+use Rattle.model.specs.Bench.{rule10, rule20, rows, starred, packet, fresh as alone, both as rules}
+use Rattle.model.specs.Table.{Rule, Table, startAction, packetRight, withRule, without, insertAnswer, deleteAnswer, cellsOf}
 use Rattle.model.specs.Ipv4.{ipv4, ipv4-shaped}
 use Rattle.layout.specs.Store.{size, cellsIn, tableOf, startAnswer, startWords, insertSays, insertWords, deleteSays, deleteWords, cellsGives}
 use Rattle.layout.proofs.Sound.{room-is}
+use Rattle.lookup.specs.declared.Found.{Found}
+use Rattle.lookup.specs.Walk.{lookupValues}
 use Rattle.demands.specs.Calls.{Passes, fieldCount, lookup}
 use Rattle.prefix.specs.Prefix.{refuses, rangeOf}
-use Rattle.demands.specs.Bench.{asPacket, answerFor, WithRoom, WithoutRoom, StarredCalls}
+use Rattle.demands.specs.Bench.{wordsBoth, asPacket, answerFor, WithRoom, WithoutRoom, StarredCalls}
 use Rattle.demands.proofs.Held.{in-use, start-leaves, insert-leaves, delete-leaves}
-use Rattle.demands.proofs.Packets.{tops-right}
 use Rattle.demands.proofs.Decided.{foundOf, lookup-is}
 
 -- the words are a store of c cells that passes and holds t
-record Is (ws : List ℕ) (c : ℕ) (t : Table) : Type 0 where
-  pass : Passes ipv4 ws
-  table : tableOf ipv4 ws ≡ t
-  cells-left : cellsIn ws ≡ c
+pub record Is (ws : List ℕ) (c : ℕ) (t : Table) : Type 0 where
+  pub pass : Passes ipv4 ws
+  pub table : tableOf ipv4 ws ≡ t
+  pub cells-left : cellsIn ws ≡ c
 
 started : (lent : List ℕ) (c : ℕ) → fieldCount ipv4 ≤ c → c ≤ 65536 → size ipv4 c ≤ length lent → startAnswer ipv4 lent c ≡ 0
 started lent c a b l = rw (room-is ipv4 c lent (record { least = a; most = b; long = l }))
@@ -48,30 +49,27 @@ module _ {ws : List ℕ} {c : ℕ} {t : Table} (s : Is ws c t) where
   counts : cellsGives ipv4 ws ≡ cellsOf ipv4 t
   counts = in-use ipv4 ipv4-shaped ws t (s .pass) (s .table)
 
--- THE LOOKUPS in a store that holds both rules
-module _ {ws : List ℕ} {c : ℕ} (s : Is ws c rules) where
-  -- of a row's values, none above its top
-  row : (destination protocol port : ℕ) → destination ≤ 4294967295 → protocol ≤ 255 → port ≤ 65535 → lookup ws (asPacket (packet destination protocol port)) ≡ answerFor (decided (packet destination protocol port))
-  row destination protocol port a b d =
-      lookup-is ipv4 ipv4-shaped ws (s .pass) (packet destination protocol port) (tops-right (asPacket (packet destination protocol port)) (record { destination-top = a; source-top = omega arith; protocol-top = b; destination-port-top = d; source-port-top = omega arith; portless-top = omega arith }))
-      ∙ ap (λ (x : Table). foundOf ipv4 x (packet destination protocol port)) (s .table)
+-- THE LOOKUPS of the rows, none of whose values is above its top
+pub each-row : (f g : List ℕ → Found) → ((vs : List ℕ) → packetRight ipv4 vs ≡ true → f vs ≡ g vs) → map (λ r. f (r .asked)) rows ≡ map (λ r. g (r .asked)) rows
+each-row f g h = λ i. h (packet 167772165 17 5004) refl i
+    ∷ h (packet 167772165 6 80) refl i
+    ∷ h (packet 167772165 17 5010) refl i
+    ∷ h (packet 167772360 6 80) refl i
+    ∷ h (packet 167772360 17 5010) refl i
+    ∷ h (packet 167772416 6 80) refl i
+    ∷ h (packet 167772159 6 80) refl i
+    ∷ []
 
-  all-rows : map (λ r. lookup ws (asPacket (r .asked))) rows ≡ map answerFor rows
-  all-rows =
-      (λ i.
-      row 167772165 17 5004 (omega arith) (omega arith) (omega arith) i
-      ∷ row 167772165 6 80 (omega arith) (omega arith) (omega arith) i
-      ∷ row 167772165 17 5010 (omega arith) (omega arith) (omega arith) i
-      ∷ row 167772360 6 80 (omega arith) (omega arith) (omega arith) i
-      ∷ row 167772360 17 5010 (omega arith) (omega arith) (omega arith) i
-      ∷ row 167772416 6 80 (omega arith) (omega arith) (omega arith) i
-      ∷ row 167772159 6 80 (omega arith) (omega arith) (omega arith) i
-      ∷ [])
-      ∙ ap (map answerFor) (starred .lookups)
+-- in a store that holds both rules
+all-rows : {ws : List ℕ} {c : ℕ} → Is ws c rules → map (λ r. lookup ws (asPacket (r .asked))) rows ≡ map answerFor rows
+all-rows {ws} s = each-row (lookupValues ipv4 ws) (foundOf ipv4 rules) (λ vs v. lookup-is ipv4 ipv4-shaped ws (s .pass) vs v ∙ ap (λ (x : Table). foundOf ipv4 x vs) (s .table)) ∙ ap (map answerFor) (starred .lookups)
 
 -- the last line of insert's answer
 room : (c k : ℕ) → k ≤ c → _≡_ {A = ℕ} (cond (ltb c k) 6 0) 0
 room c k h = rw (le-ltb c k h)
+
+pub is-both : (lent : List ℕ) (c : ℕ) → 54 ≤ c → c ≤ 65536 → size ipv4 c ≤ length lent → Is (wordsBoth lent c) c rules
+is-both lent c a b l = is-with (is-with (is-fresh lent c startAction (started lent c (omega arith) b l)) rule10 (room c 33 (omega arith))) rule20 (room c 54 a)
 
 taken : (lent : List ℕ) (c : ℕ) → 54 ≤ c → c ≤ 65536 → size ipv4 c ≤ length lent → WithRoom lent c
 taken lent c a b l =
@@ -83,7 +81,7 @@ taken lent c a b l =
     let s20 = is-with s rule20 r20 in
     let q20 : insertAnswer ipv4 c (withRule rule10 alone) rule20 ≡ 0 = room c 54 a in
     let q10 : insertAnswer ipv4 c (withRule rule20 alone) rule10 ≡ 0 = room c 54 a in
-    let sb = is-with s10 rule20 q20 in
+    let sb = is-both lent c a b l in
     let sb' = is-with s20 rule10 q10 in
     record {
       start = h;

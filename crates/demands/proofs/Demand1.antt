@@ -12,28 +12,25 @@ use lib.ListN.{length, getD, drop}
 use borrow.Author.Tests.{lt-ltb, ltb-true, ltb-false, leb-true, leb-false, eqb-true, eqb-false, eq-eqb, ne-eqb, not-true, not-false}
 use Rattle.model.specs.Lists.{In}
 use Rattle.model.specs.Rules.{rangesRight}
-use Rattle.model.specs.Table.{Kind, Rule, Table, Shaped, fields, portsRight, ruleRight, packetRight, stands, withRule, cellsOf, insertAnswer, deleteAnswer, placeAnswer}
+use Rattle.model.specs.Table.{Kind, Rule, Table, Shaped, fields, portsRight, ruleRight, stands, withRule, cellsOf, insertAnswer, deleteAnswer, placeAnswer}
 use Rattle.model.specs.Ipv4.{ipv4, ipv4-shaped}
 use Rattle.model.proofs.Tests.{by-test, never, and-left, and-right}
 use Rattle.model.proofs.UpTo.{length-upTo}
 use Rattle.model.proofs.Limits.{standing, not-standing}
 use Rattle.header.specs.declared.Packet.{Packet}
-use Rattle.header.specs.declared.Header.{Header}
-use Rattle.header.specs.declared.Header.the-variants.{Values, Unreadable, Cut}
-use Rattle.header.specs.Header.{totalLength, headerOf, answerOf}
-use Rattle.header.specs.Facts.{Faulty, answer-7-when, answer-14-when, within-tops}
 use Rattle.layout.specs.Store.{size, cellsIn, tableOf, roomFor, passes, unless, checked, startAnswer, insertSays, deleteSays, readSays, readGives, placeSays, placeGives, zeroRule, cellsSays, cellsGives}
 use Rattle.lookup.specs.declared.Found.{Found}
-use Rattle.lookup.specs.Walk.{refused, lookupIn, lookupValues, lookupPacket}
+use Rattle.lookup.specs.Walk.{lookupIn, lookupValues, lookupPacket}
 use Rattle.lookup.proofs.Steps.{wrong-11, right-in}
-use Rattle.demands.specs.Calls.{Passes, fieldCount, lowAt, highAt, topAt, FullPorts, PortsOnly, NoRoom, AboveTop, valuesIn, Bytes, lookup}
+use Rattle.demands.specs.Calls.{Passes, fieldCount, lowAt, highAt, topAt, FullPorts, PortsOnly, NoRoom, valuesIn, lookup}
 use Rattle.demands.specs.Links.{Undecided}
 use Rattle.demands.specs.Demand1.{Refuses, refuses, goes-on, done, WrongRange, WrongPorts, Spares, OnlyAnswer, Demand1}
-use Rattle.demands.proofs.Fields.{says-no, ports-say, wrong-from, right-from, not-above, one-above}
+use Rattle.demands.proofs.Fields.{says-no, ports-say, wrong-from, right-from}
 use Rattle.demands.proofs.Held.{Leaves, refused-keeps, start-leaves, insert-leaves, delete-leaves}
 use Rattle.demands.proofs.Room.{no-room, room-there}
 use Rattle.demands.proofs.Lost.{nine-or-done, undecided-9}
-use Rattle.demands.proofs.Packets.{tops-right, refused-by, readable-is, by-header}
+use Rattle.demands.proofs.Packets.{tops-right, refused-by, readable-is}
+use Rattle.demands.proofs.Answers.{Answers, lookup-lines, right-lines, zeros, few-reads, ByHeader, packet-zeros, packet-reads, packet-lines}
 use Rattle.demands.proofs.Tally.{tally-before, tally-13, tally-zeros, tally-kept}
 
 -- one line of the table, decided by a test; and by a test that says yes where the call goes on
@@ -41,7 +38,7 @@ line : {P : Type 0} {others : ℕ → Type 0} (b : Bool) (n x : ℕ) → (b ≡ 
 line true n x t f o = refuses (t refl) refl
 line false n x t f o = goes-on (f refl) o
 
-on-line : {P : Type 0} {others : ℕ → Type 0} (b : Bool) (n x : ℕ) → (b ≡ false → P) → (b ≡ true → P → ⊥) → others x → Refuses n P others (cond b x n)
+pub on-line : {P : Type 0} {others : ℕ → Type 0} (b : Bool) (n x : ℕ) → (b ≡ false → P) → (b ≡ true → P → ⊥) → others x → Refuses n P others (cond b x n)
 on-line true n x f t o = goes-on (t refl) o
 on-line false n x f t o = refuses (f refl) refl
 
@@ -50,7 +47,7 @@ answerIn f = f .answer
 
 module _ (k : Kind) where
   -- 9, where the store fails the check
-  check-line : {others : ℕ → Type 0} (ws : List ℕ) (x : ℕ) → others x → Refuses 9 (Passes k ws → ⊥) others (checked k ws x)
+  pub check-line : {others : ℕ → Type 0} (ws : List ℕ) (x : ℕ) → others x → Refuses 9 (Passes k ws → ⊥) others (checked k ws x)
   check-line ws x o = on-line (passes k ws) 9 x (λ f p. never (sym p ∙ f)) (λ t n. n t) o
 
   -- 8
@@ -135,69 +132,18 @@ module _ (k : Kind) where
       go true n = absurd (n refl)
       go false n = refl
 
--- THE LOOKUP of as many values as fields
-module _ (k : Kind) (s : Shaped k) (ws vs : List ℕ) (n : length vs ≡ fieldCount k) where
-  nine-line : Refuses 9 (Undecided k ws vs) done (lookupIn k ws vs .answer)
-  nine-line = ⊎-elim
-      (λ e. refuses (e .1) (ap answerIn (e .0)))
-      (λ e. goes-on (λ u. omega (arith, ap answerIn (undecided-9 k s ws vs u), e .0)) (e .0))
-      (nine-or-done k s ws vs)
+-- THE LOOKUPS
+store-answers : (k : Kind) (s : Shaped k) (ws vs : List ℕ) → length vs ≡ fieldCount k → Answers k vs (Undecided k ws vs) (fieldCount k * cellsIn ws) (lookupIn k ws vs) (lookupValues k ws vs)
+store-answers k s ws vs n = record { right = right-in k ws vs; wrong = wrong-11 k ws vs; nine-or-done = rw n at (nine-or-done k s ws vs); nine = undecided-9 k s ws vs }
 
-  lookup-lines : Refuses 11 (AboveTop k vs) (Refuses 9 (Undecided k ws vs) done) (lookupValues k ws vs .answer)
-  lookup-lines = by-test (packetRight k vs)
-      (λ v. rw (right-in k ws vs v) (goes-on (not-above k vs v) nine-line))
-      (λ v. rw (wrong-11 k ws vs v) (refuses (one-above k vs n v) refl))
+record-answers : (ws : List ℕ) (p : Packet) → Answers ipv4 (valuesIn p) (Undecided ipv4 ws (valuesIn p)) (fieldCount ipv4 * cellsIn ws) (lookupIn ipv4 ws (valuesIn p)) (lookup ws p)
+record-answers ws p = store-answers ipv4 ipv4-shaped ws (valuesIn p) refl
 
-  -- what is said of a refusal, with zeros, and of an answer 0 with few reads
-  by-answer : (X : Found → Type 0) → ((a : ℕ) → X (refused a)) → ((f : Found) → f .answer ≡ 0 → f .reads ≤ fieldCount k * cellsIn ws → X f) → X (lookupValues k ws vs)
-  by-answer X z d = by-test (packetRight k vs)
-      (λ v. rw (right-in k ws vs v) (⊎-elim (λ e. rw (e .0) (z 9)) (λ e. d (lookupIn k ws vs) (e .0) (rw n at (e .1))) (nine-or-done k s ws vs)))
-      (λ v. rw (wrong-11 k ws vs v) (z 11))
+store-header : (ws bytes : List ℕ) → ByHeader (lookup ws) bytes (lookupPacket ws bytes)
+store-header ws bytes = record { unread = refused-by ws bytes; read = readable-is ws bytes }
 
--- THE LIBRARY'S LOOKUPS
-module _ (ws : List ℕ) where
-  refused-zeros : (a : ℕ) → OnlyAnswer (refused a)
-  refused-zeros a = record { rule = refl; action = refl; reads = refl }
-
-  lookup-zeros : (p : Packet) → lookup ws p .answer ≢ 0 → OnlyAnswer (lookup ws p)
-  lookup-zeros p = by-answer ipv4 ipv4-shaped ws (valuesIn p) refl (λ f. f .answer ≢ 0 → OnlyAnswer f) (λ a h. refused-zeros a) (λ f e r h. absurd (h e))
-
-  lookup-reads : (p : Packet) → lookup ws p .reads ≤ fieldCount ipv4 * cellsIn ws
-  lookup-reads p = by-answer ipv4 ipv4-shaped ws (valuesIn p) refl (λ f. f .reads ≤ fieldCount ipv4 * cellsIn ws) (λ a. omega arith) (λ f e r. r)
-
-  module _ (bytes : List ℕ) where
-    -- what is said of every refusal, and of the lookup of each record, is said of the lookup by a packet
-    by-packet : (X : Found → Type 0) → ((a : ℕ) → X (refused a)) → ((p : Packet) → X (lookup ws p)) → X (lookupPacket ws bytes)
-    by-packet X u v = by-header (X (lookupPacket ws bytes)) bytes (λ h e n. rw (refused-by ws bytes h e n) (u (answerOf h))) (λ p e. rw (readable-is ws bytes p e) (v p))
-
-    packet-zeros : lookupPacket ws bytes .answer ≢ 0 → OnlyAnswer (lookupPacket ws bytes)
-    packet-zeros = by-packet (λ f. f .answer ≢ 0 → OnlyAnswer f) (λ a n. refused-zeros a) lookup-zeros
-
-    packet-reads : lookupPacket ws bytes .reads ≤ fieldCount ipv4 * cellsIn ws
-    packet-reads = by-packet (λ f. f .reads ≤ fieldCount ipv4 * cellsIn ws) (λ a. omega arith) lookup-reads
-
-    -- 9, by the values that the header gives
-    abbrev Nine : ℕ → Type 0
-    Nine answer = (p : Packet) × (headerOf bytes ≡ Values p) × Refuses 9 (Undecided ipv4 ws (valuesIn p)) done answer
-
-    readable-nine : Bytes bytes → (p : Packet) → headerOf bytes ≡ Values p → Refuses 9 (Undecided ipv4 ws (valuesIn p)) done (lookupPacket ws bytes .answer)
-    readable-nine b p e = rw (readable-is ws bytes p e ∙ right-in ipv4 ws (valuesIn p) (tops-right p (within-tops bytes p b e))) (nine-line ipv4 ipv4-shaped ws (valuesIn p) refl)
-
-    -- what the header's case has for its number, the lookup answers
-    by-case : (h : Header) → headerOf bytes ≡ h → answerOf h ≢ 0 → lookupPacket ws bytes .answer ≡ answerOf h
-    by-case h e n = ap answerIn (refused-by ws bytes h e n)
-
-    packet-lines : Bytes bytes → Refuses 7 (Faulty bytes) (Refuses 14 (length bytes < totalLength bytes) Nine) (lookupPacket ws bytes .answer)
-    packet-lines b = go (headerOf bytes) refl
-      where
-        go : (h : Header) → headerOf bytes ≡ h → Refuses 7 (Faulty bytes) (Refuses 14 (length bytes < totalLength bytes) Nine) (lookupPacket ws bytes .answer)
-        go Unreadable e = refuses (answer-7-when bytes .0 (ap answerOf e)) (by-case Unreadable e (λ z. omega (arith, z)))
-        go Cut e =
-            let q = answer-14-when bytes .0 (ap answerOf e) in
-            goes-on (q .0) (refuses (q .1) (by-case Cut e (λ z. omega (arith, z))))
-        go (Values p) e =
-            let fine : Faulty bytes → ⊥ = λ r. omega (arith, answer-7-when bytes .1 r, ap answerOf e) in
-            goes-on fine (goes-on (λ l. omega (arith, answer-14-when bytes .1 (fine, l), ap answerOf e)) (p, e, readable-nine b p e))
+store-zeros : (ws bytes : List ℕ) → lookupPacket ws bytes .answer ≢ 0 → OnlyAnswer (lookupPacket ws bytes)
+store-zeros ws bytes = packet-zeros (store-header ws bytes) (λ p. zeros (record-answers ws p))
 
 pub demand1 : Demand1
 demand1 =
@@ -217,14 +163,14 @@ demand1 =
       rule-at-zeros = rule-at-zeros ipv4;
       cells = λ ws. check-line ipv4 ws 0 refl;
       cells-zeros = cells-zeros ipv4;
-      lookup-answer = λ ws p. lookup-lines ipv4 s ws (valuesIn p) refl;
-      lookup-zeros = lookup-zeros;
-      packet-answer = packet-lines;
-      packet-zeros = packet-zeros;
-      lookup-reads = lookup-reads;
-      packet-reads = packet-reads;
+      lookup-answer = λ ws p. lookup-lines (record-answers ws p) refl;
+      lookup-zeros = λ ws p. zeros (record-answers ws p);
+      packet-answer = λ ws bytes. packet-lines (store-header ws bytes) (λ p. Refuses 9 (Undecided ipv4 ws (valuesIn p)) done) (λ p t. right-lines (record-answers ws p) (tops-right p t));
+      packet-zeros = store-zeros;
+      lookup-reads = λ ws p. few-reads (record-answers ws p);
+      packet-reads = λ ws bytes. packet-reads (store-header ws bytes) _ (λ p. few-reads (record-answers ws p));
       tally-before = tally-before;
       tally-13 = tally-13;
-      tally-zeros = λ ws bytes t. tally-zeros ws bytes t (packet-zeros ws bytes);
+      tally-zeros = λ ws bytes t. tally-zeros ws bytes t (store-zeros ws bytes);
       tally-kept = tally-kept;
     }

@@ -52,14 +52,14 @@ module _ (k : Kind) (s : Shaped k) where
       let y = run-on (wordsAfter k ws e) es (z .0) in
       (y .0, y .1 ∙ z .1)
 
-  stays : (g : History k) → Passes k (wordsLeft k g) × (cellsIn (wordsLeft k g) ≡ g .cells)
+  pub stays : (g : History k) → Passes k (wordsLeft k g) × (cellsIn (wordsLeft k g) ≡ g .cells)
   stays g =
       let l = start-leaves k s (g .lent) (g .cells) (g .action) (g .accepted) in
       let z = run-on (startWords k (g .lent) (g .cells) (g .action)) (g .edits) (l .pass) in
       (z .0, z .1 ∙ l .cells-left)
 
   -- THE SAME TABLE
-  same-table : (g h : History k) → SameRules k g h → tableOf k (wordsLeft k g) ≡ tableOf k (wordsLeft k h)
+  pub same-table : (g h : History k) → SameRules k g h → tableOf k (wordsLeft k g) ≡ tableOf k (wordsLeft k h)
   same-table g h e =
       let rules = same-set k (tableOf k (wordsLeft k g)) (tableOf k (wordsLeft k h)) (right k s (wordsLeft k g) (stays g .0)) (right k s (wordsLeft k h) (stays h .0)) (e .rules) in
       λ i. record { action = e .default i; rules = rules i }

@@ -31,7 +31,7 @@ use Rattle.layout.proofs.Passed.{sound-most}
 pub refused-keeps : (a : ℕ) (new ws : List ℕ) → (a ≡ 0 → ⊥) → unless a new ws ≡ ws
 refused-keeps a new ws h = rw (ne-eqb a 0 h)
 
-done-leaves : (a : ℕ) (new ws : List ℕ) → a ≡ 0 → unless a new ws ≡ new
+pub done-leaves : (a : ℕ) (new ws : List ℕ) → a ≡ 0 → unless a new ws ≡ new
 done-leaves a new ws h = rw (eq-eqb a 0 h)
 
 -- WHAT AN EDIT LEAVES: a store of c cells that holds t and passes, and the words behind it as they were
@@ -43,6 +43,20 @@ pub record Leaves (k : Kind) (ws after : List ℕ) (c : ℕ) (t : Table) : Type 
   pub long : length after ≡ length ws
 
 module _ (k : Kind) (s : Shaped k) where
+  -- THE ROWS OF A TABLE behind a head, whatever stands behind them
+  module _ (c : ℕ) (t : Table) (behind : List ℕ) where
+    pub rows-in : rowsOf k (headText k c (length (t .rules)) ++ (rowsText k t ++ behind)) ≡ rowsText k t
+    rows-in =
+        ap (take (rowWords k)) (drop-at (headText k c (length (t .rules))) (rowsText k t ++ behind) (k .head) (head-length k s c (length (t .rules)) []))
+        ∙ take-at (rowsText k t) behind (rowWords k) (rows-long k t)
+
+    count-in : getD (headText k c (length (t .rules)) ++ (rowsText k t ++ behind)) 1 0 ≡ length (t .rules)
+    unfolding headText
+    count-in = refl
+
+    pub held-in : within k t ≡ true → tableOf k (headText k c (length (t .rules)) ++ (rowsText k t ++ behind)) ≡ t
+    held-in w = ap₂ (tableIn k) count-in rows-in ∙ round-trip k s t w
+
   -- THE TEXT OF A TABLE within the limits, whose tree has room in c cells
   module _ (c : ℕ) (t : Table) (w : within k t ≡ true) where
     text-length : cellsOf k t ≤ c → length (text k c t) ≡ size k c
@@ -59,18 +73,8 @@ module _ (k : Kind) (s : Shaped k) where
       unfolding text headText
       cells-in = refl
 
-      count-in : getD (text k c t ++ rest) 1 0 ≡ length (t .rules)
-      unfolding text headText
-      count-in = refl
-
-      rows-in : rowsOf k (text k c t ++ rest) ≡ rowsText k t
-      rows-in =
-          ap (rowsOf k) in-three
-          ∙ ap (take (rowWords k)) (drop-at (headText k c (length (t .rules))) (rowsText k t ++ (part c (stored k t) ++ rest)) (k .head) (head-length k s c (length (t .rules)) []))
-          ∙ take-at (rowsText k t) (part c (stored k t) ++ rest) (rowWords k) (rows-long k t)
-
       pub table-in : tableOf k (text k c t ++ rest) ≡ t
-      table-in = ap₂ (tableIn k) count-in rows-in ∙ round-trip k s t w
+      table-in = ap (tableOf k) in-three ∙ held-in c t (part c (stored k t) ++ rest) w
 
   -- words that name c cells, hold the table t within the limits, and begin with its text
   passes-of : (ws : List ℕ) (c : ℕ) (t : Table) → cellsIn ws ≡ c → tableOf k ws ≡ t → Roomy k c ws → within k t ≡ true → take (size k c) ws ≡ text k c t → passes k ws ≡ true

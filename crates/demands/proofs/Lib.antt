@@ -5,11 +5,13 @@ pub mod Packets
 pub mod Looked
 pub mod Lost
 pub mod Decided
+pub mod Left
 pub mod Counted
 pub mod Links
 pub mod Tally
 pub mod Readings
 pub mod Kept
+pub mod Answers
 pub mod Demand1
 pub mod Demand2
 pub mod Demand3
@@ -21,4 +23,9 @@ pub mod Scan
 pub mod Portless
 pub mod Dead
 pub mod Worst
+pub mod Images
+pub mod Stacked
+pub mod Strayed
+pub mod Imaged
+pub mod Frozen
 pub mod Shown

@@ -133,10 +133,10 @@ module _ (k : Kind) (ws : List ℕ) where
         at-most : (i n : ℕ) → k .width * i ≤ k .width * n → i ≤ n
         at-most i n h = by-test (ltb n i) (λ a. absurd (omega (arith, row-ends (k .width) n i (ltb-true n i a), s .ends))) (λ a. ltb-false n i a)
 
-    no-row : begins k (getD ws 1 0) p ≡ false → NoRow k ws p
+    pub no-row : begins k (getD ws 1 0) p ≡ false → NoRow k ws p
     no-row h i a b q = never (sym (begins-row k s (getD ws 1 0) i b a) ∙ ap (begins k (getD ws 1 0)) (sym q) ∙ h)
 
-    rowless-9 : NoRow k ws p → (r : ℕ) → foundIn k ws (At p r) ≡ refused 9
+    pub rowless-9 : NoRow k ws p → (r : ℕ) → foundIn k ws (At p r) ≡ refused 9
     rowless-9 o r = by-test (begins k (getD ws 1 0) p) (λ t. absurd (row-there t o)) (λ t. rw t)
 
   astray-9 : Shaped k → (vs : List ℕ) (j r : ℕ) → Astray k ws vs j → foundIn k ws (throughOf P C vs j r) ≡ refused 9

@@ -98,6 +98,19 @@ module _ (k : Kind) (s : Shaped k) (ws : List ℕ) where
   pub unsound : (Sound k ws → ⊥) → false ≡ passes k ws
   unsound h = by-test (passes k ws) (λ t. absurd (h (sound t))) (λ t. sym t)
 
+-- the words of a head behind the first three are zeros
+module _ (k : Kind) (s : Shaped k) (ws : List ℕ) (long : k .head ≤ length ws) where
+  pub zeros-are : Zeros ws 3 (k .head) → take (k .head - 3) (drop 3 ws) ≡ replicate (k .head - 3) 0
+  zeros-are z =
+      let y : length (take (k .head - 3) (drop 3 ws)) ≡ k .head - 3 = simp (length-take, length-drop) (omega (arith, long, s .three)) in
+      ext-getD 0 (take (k .head - 3) (drop 3 ws)) (replicate (k .head - 3) 0) (y ∙ sym (length-replicate (k .head - 3) 0))
+      (λ i h. getD-take (k .head - 3) (drop 3 ws) i 0 (omega (arith, y)) ∙ (getD-drop 3 ws i 0 ∙ (z (3 + i) (omega arith) (omega (arith, y)) ∙ sym (getD-replicate (k .head - 3) i 0 0 (omega (arith, y))))))
+
+  pub are-zeros : take (k .head - 3) (drop 3 ws) ≡ replicate (k .head - 3) 0 → Zeros ws 3 (k .head)
+  are-zeros e i a b =
+      let y : 3 + (i - 3) ≡ i = omega arith in
+      ap (λ j. getD ws j 0) (sym y) ∙ (sym (getD-drop 3 ws (i - 3) 0) ∙ (sym (getD-take (k .head - 3) (drop 3 ws) (i - 3) 0 (omega arith)) ∙ (ap (λ xs. getD xs (i - 3) 0) e ∙ getD-replicate (k .head - 3) (i - 3) 0 0 (omega arith))))
+
 -- the tests of the check, in its order
 module _ (k : Kind) (s : Shaped k) (ws : List ℕ) where
   pub check-short : length ws < front k → false ≡ passes k ws
@@ -116,20 +129,8 @@ module _ (k : Kind) (s : Shaped k) (ws : List ℕ) where
     long : k .head ≤ length ws
     long = omega (arith, roomy k (cellsIn ws) ws room .long)
 
-    -- the words of the head behind the first three are zeros
-    zeros-are : Zeros ws 3 (k .head) → take (k .head - 3) (drop 3 ws) ≡ replicate (k .head - 3) 0
-    zeros-are z =
-        let y : length (take (k .head - 3) (drop 3 ws)) ≡ k .head - 3 = simp (length-take, length-drop) (omega (arith, long, s .three)) in
-        ext-getD 0 (take (k .head - 3) (drop 3 ws)) (replicate (k .head - 3) 0) (y ∙ sym (length-replicate (k .head - 3) 0))
-        (λ i h. getD-take (k .head - 3) (drop 3 ws) i 0 (omega (arith, y)) ∙ (getD-drop 3 ws i 0 ∙ (z (3 + i) (omega arith) (omega (arith, y)) ∙ sym (getD-replicate (k .head - 3) i 0 0 (omega (arith, y))))))
-
-    are-zeros : take (k .head - 3) (drop 3 ws) ≡ replicate (k .head - 3) 0 → Zeros ws 3 (k .head)
-    are-zeros e i a b =
-        let y : 3 + (i - 3) ≡ i = omega arith in
-        ap (λ j. getD ws j 0) (sym y) ∙ (sym (getD-drop 3 ws (i - 3) 0) ∙ (sym (getD-take (k .head - 3) (drop 3 ws) (i - 3) 0 (omega arith)) ∙ (ap (λ xs. getD xs (i - 3) 0) e ∙ getD-replicate (k .head - 3) (i - 3) 0 0 (omega arith))))
-
     pub check-zeros : (b : Bool) → Tells b (Zeros ws 3 (k .head)) → not b ≡ true → false ≡ passes k ws
-    check-zeros b e t = unsound k s ws (λ o. said-no b e t (are-zeros (o .zeros)))
+    check-zeros b e t = unsound k s ws (λ o. said-no b e t (are-zeros k s ws long (o .zeros)))
 
     -- what stands behind the head
     pub check-body : (a : Bool) {d : Bool} → getD ws 1 0 ≤ k .most → getD ws 2 0 ≡ k .mark → Tells a (Zeros ws 3 (k .head)) → not a ≡ false
@@ -146,7 +147,7 @@ module _ (k : Kind) (s : Shaped k) (ws : List ℕ) where
           room = room;
           few = few;
           marked = mark;
-          zeros = zeros-are (said-yes a ea ta);
+          zeros = zeros-are k s ws long (said-yes a ea ta);
           rows = same-true _ _ (and-left S _ w);
           rising = and-left (risingFrom 0 (tableOf k ws .rules)) _ v;
           right = and-right (risingFrom 0 (tableOf k ws .rules)) _ v;

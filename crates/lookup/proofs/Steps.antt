@@ -109,22 +109,23 @@ module _ (k : Kind) (w vs : List ℕ) where
       unfolding lookupIn
       enough-words b h = simp (eq-eqb _ (k .mark) m, le-leb (length (k .tops)) _ a, le-leb _ 65536 b, le-leb (size k (getD w 0 0)) (length w) h)
 
--- what the place that the walk came to says; the part of the words goes from a word up to an end
-module _ (k : Kind) (w vs : List ℕ) (c from : ℕ) (q : c ≡ cellsIn w) (f : from ≡ k .head + rowWords k) where
-  part-is : walkOf (take (from + (2 + 8 * c) - from) (drop from w)) c vs ≡ walkOf (partIn k w) c vs
-  part-is = let z : from + (2 + 8 * c) - from ≡ 2 + 8 * cellsIn w = omega arith in rw (z, f)
+-- the part of the words with the cells, from a word up to an end
+pub part-is : (k : Kind) (w vs : List ℕ) (c from : ℕ) → c ≡ cellsIn w → from ≡ k .head + rowWords k → walkOf (take (from + (2 + 8 * c) - from) (drop from w)) c vs ≡ walkOf (partIn k w) c vs
+part-is k w vs c from q f = let z : from + (2 + 8 * c) - from ≡ 2 + 8 * cellsIn w = omega arith in rw (z, f)
 
-  pub no-place : Lost ≡ walkOf (take (from + (2 + 8 * c) - from) (drop from w)) c vs → refused 9 ≡ foundIn k w (walkOf (partIn k w) c vs)
-  no-place e = ap (foundIn k w) (e ∙ part-is)
+-- what the place that a walk came to says
+module _ (k : Kind) (w : List ℕ) (l : Walked) where
+  pub no-place : l ≡ Lost → refused 9 ≡ foundIn k w l
+  no-place e = rw e
 
-  module _ (p r : ℕ) (e : At p r ≡ walkOf (take (from + (2 + 8 * c) - from) (drop from w)) c vs) (b : Bool) (g : b ≡ begins k (getD w 1 0) p) where
-    at-place : cond b (record { answer = 0; rule = getD w (k .head + p) 0; action = getD w (k .head + p + 1) 0; reads = r }) (refused 9) ≡ foundIn k w (walkOf (partIn k w) c vs)
-    at-place = rw g (ap (foundIn k w) (e ∙ part-is))
+  module _ (p r : ℕ) (e : l ≡ At p r) (b : Bool) (g : b ≡ begins k (getD w 1 0) p) where
+    at-place : cond b (record { answer = 0; rule = getD w (k .head + p) 0; action = getD w (k .head + p + 1) 0; reads = r }) (refused 9) ≡ foundIn k w l
+    at-place = rw (e, g)
 
-    pub past-rules : not b ≡ true → refused 9 ≡ foundIn k w (walkOf (partIn k w) c vs)
+    pub past-rules : not b ≡ true → refused 9 ≡ foundIn k w l
     past-rules h = rw (not-true b h) at at-place
 
-    pub rule-at : not b ≡ false → record { answer = 0; rule = getD w (k .head + p) 0; action = getD w (k .head + p + 1) 0; reads = r } ≡ foundIn k w (walkOf (partIn k w) c vs)
+    pub rule-at : not b ≡ false → record { answer = 0; rule = getD w (k .head + p) 0; action = getD w (k .head + p + 1) 0; reads = r } ≡ foundIn k w l
     rule-at h = rw (not-false b h) at at-place
 
 -- a row that begins at a place begins before the last of them ends

@@ -1,4 +1,4 @@
--- Over cells that hold a tree, the walk is the tree's walk: it comes to the place that the tree's walk finds, and reads as many cells.
+-- Over cells that hold a tree, the walk is the tree's walk: it comes to the place that the tree's walk finds, and reads as many cells. Where the words have a table's rows, the place of its winner names the winner.
 -- Assumes nothing.
 use mathlib.Core.Path.{_≡_, refl, sym, ap, _∙_}
 use mathlib.Core.Bool.{Bool, true, false, cond}
@@ -7,7 +7,8 @@ use mathlib.Core.Option.{some}
 use Prim.Native.Nat.{ℕ, suc, _+_, _-_, _*_, _%_, _≤_, _<_}
 use native.Mathlib.Omega.{arith}
 use lib.Dec.{ltb}
-use lib.ListN.{length, getD}
+use lib.ListN.{length, getD, drop}
+use lib.Seq.{getD-take, getD-drop}
 use borrow.Author.Tests.{ltb-true, ltb-false, le-leb}
 use Rattle.model.specs.Rules.{Tree, names, stop, loc, cells, found, reads}
 use Rattle.cells.specs.Text.{width, under, first, part}
@@ -15,9 +16,11 @@ use Rattle.cells.specs.Planted.{Deep}
 use Rattle.cells.proofs.From.{Stands, end-here, next-here, down-here, rest-stands, under-stands, part-stands}
 use Rattle.lookup.specs.declared.Walked.the-variants.{At}
 use lib.Arith.{digits-mod}
-use Rattle.model.specs.Table.{Kind, Shaped}
-use Rattle.model.proofs.Grid.{row-starts}
-use Rattle.layout.specs.Store.{size, cellsIn}
+use Rattle.model.specs.Table.{Kind, Rule, Table, Shaped, rowWords, winnerOf}
+use Rattle.model.proofs.Grid.{row-starts, row-ends}
+use Rattle.table.specs.Rows.{rowsText}
+use Rattle.layout.specs.Store.{size, cellsIn, rowsOf}
+use Rattle.layout.proofs.Bridge.{Decided}
 use Rattle.lookup.specs.Walk.{seekOf, onFrom, throughOf, walkOf, partIn, begins, foundIn, lookupIn}
 use Rattle.lookup.proofs.Steps.{seek-here, seek-next, enough-words}
 
@@ -87,13 +90,12 @@ module _ (c : ℕ) (t : Tree ℕ) (h : cells t ≤ c) where
 
 -- THE LOOKUP over words of a kind whose part with the cells holds such a tree
 pub lookup-tree : (k : Kind) (w vs : List ℕ) (t : Tree ℕ) (p : ℕ) → getD w 2 0 ≡ k .mark → length (k .tops) ≤ cellsIn w → cellsIn w ≤ 65536 → size k (cellsIn w) ≤ length w
-    → partIn k w ≡ part (cellsIn w) t → cells t ≤ cellsIn w → Deep t (length vs) → found t vs ≡ some p → begins k (getD w 1 0) p ≡ true
-    → lookupIn k w vs ≡ record { answer = 0; rule = getD w (k .head + p) 0; action = getD w (k .head + p + 1) 0; reads = reads t vs }
-lookup-tree k w vs t p n a b l e h d f m =
+    → partIn k w ≡ part (cellsIn w) t → cells t ≤ cellsIn w → Deep t (length vs) → found t vs ≡ some p
+    → lookupIn k w vs ≡ foundIn k w (At p (reads t vs))
+lookup-tree k w vs t p n a b l e h d f =
     sym (enough-words k w vs n a b l)
     ∙ ap (λ x. foundIn k w (walkOf x (cellsIn w) vs)) e
     ∙ ap (foundIn k w) (walk-tree (cellsIn w) t h vs p d f)
-    ∙ simp m
 
 -- where a row of the table begins
 pub begins-row : (k : Kind) (s : Shaped k) (n q : ℕ) → q ≤ k .most → q ≤ n → begins k n (k .width * q) ≡ true
@@ -101,3 +103,19 @@ begins-row k s n q a b =
     let y : k .width * q ≡ q * k .width + 0 = omega arith in
     let z : (k .width * q) % k .width ≡ 0 = rw y (digits-mod q (omega (arith, s .ends))) in
     rw (le-leb (k .width * q) (k .width * k .most) (row-starts (k .width) q (k .most) a), le-leb (k .width * q) (k .width * n) (row-starts (k .width) q n b), z)
+
+-- THE RULE at the place that a walk finds for some values in the tree of a table's cells, where the words have the table's rows
+module _ (k : Kind) (s : Shaped k) (t : Table) (few : length (t .rules) ≤ k .most) (w : List ℕ) (count : getD w 1 0 ≡ length (t .rules)) (rows : rowsOf k w ≡ rowsText k t) where
+  -- word i of the rows
+  row-word : (i : ℕ) → i < rowWords k → getD w (k .head + i) 0 ≡ getD (rowsText k t) i 0
+  row-word i l = sym (getD-take (rowWords k) (drop (k .head) w) i 0 l ∙ getD-drop (k .head) w i 0) ∙ ap (λ x. getD x i 0) rows
+
+  pub rule-found : (vs : List ℕ) (f : Decided k t vs) (r : ℕ) → foundIn k w (At (f .place) r) ≡ record { answer = 0; rule = winnerOf k t vs .number; action = winnerOf k t vs .action; reads = r }
+  rule-found vs f r =
+      let p = f .place in
+      let b : begins k (getD w 1 0) p ≡ true = rw (f .begins) (begins-row k s (getD w 1 0) (f .row) (omega (arith, f .in-table)) (omega (arith, f .in-table))) in
+      let l : p + 1 < rowWords k = omega (arith, f .begins, f .in-table, row-ends (k .width) (f .row) (k .most + 1) (omega (arith, f .in-table)), s .ends) in
+      let y : k .head + p + 1 ≡ k .head + (p + 1) = omega arith in
+      let x = row-word p (omega arith) ∙ ap (λ (z : Rule). z .number) (f .winner) in
+      let a = ap (λ i. getD w i 0) y ∙ row-word (p + 1) l ∙ ap (λ (z : Rule). z .action) (f .winner) in
+      simp b (λ i. record { answer = 0; rule = x i; action = a i; reads = r })

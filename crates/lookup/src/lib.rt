@@ -3,7 +3,7 @@ ghost use mathlib.Core.Path.{_≡_};
 ghost use mathlib.Core.List.{[], _∷_};
 ghost use Prim.Native.Nat.{_+_, _*_, _≤_};
 ghost use lib.ListN.{length};
-ghost use Rattle.model.specs.Table.{Shaped};
+ghost use Rattle.model.specs.Table.{Shaped, front};
 ghost use Rattle.model.specs.Ipv4.{ipv4};
 ghost use Rattle.table.specs.Rows.{kindOf};
 ghost use Rattle.layout.specs.Store.{size, cellsIn};
@@ -83,14 +83,12 @@ pub fn refuse(answer: u32) -> Found
     }
 }
 
-// The rule of the row that the walk comes to, where the words are enough for their c cells.
-fn decide(words: &[u32], c: u32, values: &[u32], tops: &[u32], shape: Shape) -> Found
-    requires { ⌜ Shaped (kindOf (now tops) shape) × (c ≡ cellsIn (now words)) × (c ≤ 65536) × (size (kindOf (now tops) shape) c ≤ length (now words)) × (length (now values) ≤ 64) ⌝ }
-    ensures { λ r. ⌜ r ≡ foundIn (kindOf (now (tops .entry)) shape) (now (words .entry)) (walkOf (partIn (kindOf (now (tops .entry)) shape) (now (words .entry))) c (now (values .entry))) ⌝ }
+// The rule of the row that a walk came to: 9 where the walk is lost, or where no rule's row begins there.
+pub fn found_in(words: &[u32], walked: Walked, tops: &[u32], shape: Shape) -> Found
+    requires { ⌜ Shaped (kindOf (now tops) shape) × (front (kindOf (now tops) shape) ≤ length (now words)) ⌝ }
+    ensures { λ r. ⌜ r ≡ foundIn (kindOf (now (tops .entry)) shape) (now (words .entry)) walked ⌝ }
 {
-    let from = table::rows_end(shape) as usize;
-    let end = from + (2 + 8 * (c as usize));
-    let Walked::At { place, reads } = walk(&words[from..end], c, values) else {
+    let Walked::At { place, reads } = walked else {
         return refuse(9);
     };
     if !table::begins(shape, words[1], place) {
@@ -103,6 +101,16 @@ fn decide(words: &[u32], c: u32, values: &[u32], tops: &[u32], shape: Shape) -> 
         action: words[row + 1],
         reads,
     }
+}
+
+// The rule of the row that the walk of the cells comes to, where the words are enough for their c cells.
+fn decide(words: &[u32], c: u32, values: &[u32], tops: &[u32], shape: Shape) -> Found
+    requires { ⌜ Shaped (kindOf (now tops) shape) × (c ≡ cellsIn (now words)) × (c ≤ 65536) × (size (kindOf (now tops) shape) c ≤ length (now words)) × (length (now values) ≤ 64) ⌝ }
+    ensures { λ r. ⌜ r ≡ foundIn (kindOf (now (tops .entry)) shape) (now (words .entry)) (walkOf (partIn (kindOf (now (tops .entry)) shape) (now (words .entry))) c (now (values .entry))) ⌝ }
+{
+    let from = table::rows_end(shape) as usize;
+    let end = from + (2 + 8 * (c as usize));
+    found_in(words, walk(&words[from..end], c, values), tops, shape)
 }
 
 // The lookup of some values, one for each field, in a store of a kind: 9 at once where the words name another kind, or no number of cells within its limits, or are too few for it.

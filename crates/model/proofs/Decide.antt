@@ -1,7 +1,7 @@
 -- The decision over a table, for a packet within the tops: the walk of its tree finds the winner and reads as many cells as the rules say, at most 2 × n + 1 in each field, and k + (k + 1) × n over all k fields; the winner is a rule of the table, or the default, that holds the packet, and none of a lesser number does. And the default alone takes one cell for each field.
 -- Assumes nothing.
 use mathlib.Core.Path.{_≡_, refl, sym, ap, subst, _∙_}
-use mathlib.Core.Logic.{inl}
+use mathlib.Core.Logic.{inl, ⊎-elim}
 use mathlib.Core.Bool.{true}
 use mathlib.Core.List.{List, [], _∷_}
 use mathlib.Core.Option.{some}
@@ -12,16 +12,17 @@ use lib.ListN.{length, getD, drop, drop-of-length-le, length-append, List·getD-
 use lib.Seq.{drop-cons}
 use borrow.Author.Tests.{eqb-true, eq-eqb}
 use Rattle.model.specs.Lists.{In, least}
-use Rattle.model.specs.Rules.{holds, found, reads, values, readsEach}
-use Rattle.model.specs.Table.{Kind, Rule, Table, numberOf, fieldsFrom, fields, defaultRule, everyRule, winnerOf, readsOf, treeOf, cellsOf, packetRight}
+use Rattle.model.specs.Rules.{holds, found, reads, values, readsEach, rangesRight}
+use Rattle.model.specs.Table.{Kind, Rule, Table, numberOf, fieldsFrom, fields, defaultRule, everyRule, winnerOf, readsOf, treeOf, cellsOf, packetRight, within}
 use Rattle.model.proofs.Tests.{and-left, and-right}
 use Rattle.model.proofs.Keep.{in-right}
-use Rattle.model.proofs.Walk.{walk-finds, walk-reads, full, full-holds}
+use Rattle.model.proofs.Walk.{walk-finds, walk-reads, full, full-holds, full-right}
 use Rattle.model.proofs.Sets.{winner-in as in-rules, winner-holds as holds-packet, winner-least as least-of}
+use Rattle.model.proofs.Limits.{from-within, from-every}
 use Rattle.model.proofs.Bound.{Lowest, each-bound, sum-bound, tight-bound}
 use Rattle.model.proofs.Fewer.{alone}
 
-length-fields : (i : ℕ) (ts : List ℕ) → length (fieldsFrom i ts) ≡ length ts
+pub length-fields : (i : ℕ) (ts : List ℕ) → length (fieldsFrom i ts) ≡ length ts
 length-fields i [] = refl
 length-fields i (t ∷ ts) = ap suc (length-fields (suc i) ts)
 
@@ -35,7 +36,7 @@ module _ (k : Kind) (a : ℕ) where
   low-zero : (i : ℕ) → getD (defaultRule k a .lows) i 0 ≡ 0
   low-zero i = List·getD-map (λ t. 0) (k .tops) i 0
 
-  default-lowest : (i : ℕ) (ts : List ℕ) → Lowest (fieldsFrom i ts) (defaultRule k a)
+  pub default-lowest : (i : ℕ) (ts : List ℕ) → Lowest (fieldsFrom i ts) (defaultRule k a)
   default-lowest i [] = tt
   default-lowest i (t ∷ ts) = (low-zero i, default-lowest (suc i) ts)
 
@@ -57,11 +58,19 @@ module _ (k : Kind) (a : ℕ) where
   pub default-cells : cellsOf k (record { action = a; rules = [] }) ≡ length (k .tops)
   default-cells = alone (least numberOf (defaultRule k a)) (fields k) (defaultRule k a) (default-lowest 0 (k .tops)) ∙ length-fields 0 (k .tops)
 
+-- so the ranges of all rules of a table within the limits are right
+pub every-right : (k : Kind) (t : Table) → within k t ≡ true → (r : Rule) → In r (everyRule k t) → rangesRight (fields k) r ≡ true
+every-right k t h r m =
+    ⊎-elim
+    (λ (n : In r (t .rules)). and-left (rangesRight (fields k) r) _ (and-right (eqb (length (r .highs)) (length (k .tops))) _ (and-right (eqb (length (r .lows)) (length (k .tops))) _ (from-within k t h .right r n))))
+    (λ (q : r ≡ defaultRule k (t .action)). rw q (full-right (fields k) (defaultRule k (t .action)) (default-full k (t .action) 0 (k .tops) refl)))
+    (from-every k t r m)
+
 module _ (k : Kind) (t : Table) (p : List ℕ) (h : packetRight k p ≡ true) where
-  default-in : In (defaultRule k (t .action)) (everyRule k t)
+  pub default-in : In (defaultRule k (t .action)) (everyRule k t)
   default-in = in-right (t .rules) (defaultRule k (t .action) ∷ []) (defaultRule k (t .action)) (inl refl)
 
-  its-values : values (fields k) p ≡ p
+  pub its-values : values (fields k) p ≡ p
   its-values = values-drop (k .tops) 0 p (eqb-true (length p) (length (k .tops)) (and-left (eqb (length p) (length (k .tops))) _ h) ∙ omega arith)
 
   pub finds : found (treeOf k t) p ≡ some (winnerOf k t p)
@@ -81,7 +90,7 @@ module _ (k : Kind) (t : Table) (p : List ℕ) (h : packetRight k p ≡ true) wh
   pub winner-least : (r : Rule) → In r (everyRule k t) → holds (fields k) p r ≡ true → winnerOf k t p .number ≤ r .number
   winner-least = least-of numberOf (defaultRule k (t .action)) (fields k) p (everyRule k t)
 
-  length-every : length (everyRule k t) ≤ length (t .rules) + 1
+  pub length-every : length (everyRule k t) ≤ length (t .rules) + 1
   length-every = omega (arith, length-append (t .rules) (defaultRule k (t .action) ∷ []))
 
   pub reads-each : (x : ℕ) → In x (readsEach (fields k) p (everyRule k t)) → x ≤ 2 * length (t .rules) + 1

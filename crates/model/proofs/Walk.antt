@@ -10,7 +10,7 @@ use native.Mathlib.Omega.{arith}
 use lib.Dec.{ltb, leb, eqb}
 use borrow.Author.Tests.{ltb-true, ltb-false, le-ltb, leb-true, le-leb, eqb-true}
 use Rattle.model.specs.Lists.{In, Rising, keep, below}
-use Rattle.model.specs.Rules.{Field, covers, holds, ends, Tree, chain, tree, found, reads, values, readsSum, withinTops}
+use Rattle.model.specs.Rules.{Field, covers, holds, ends, Tree, chain, tree, found, reads, values, readsSum, withinTops, rangesRight}
 use Rattle.model.proofs.Tests.{by-test, and-left, and-right, and-both, leb-same}
 use Rattle.model.proofs.Keep.{in-keep, keep-same, keep-every, keep-keep}
 use Rattle.model.proofs.Ends.{End, in-ends, ends-rising}
@@ -146,3 +146,12 @@ full-holds (f ∷ fs) p d h w =
 
     in-top : f .value p ≤ f .top
     in-top = leb-true (f .value p) (f .top) (and-left (leb (f .value p) (f .top)) (withinTops fs p) w)
+
+-- and its ranges are right
+pub full-right : {P A : Type 0} (fs : List (Field P A)) (d : A) → full fs d ≡ true → rangesRight fs d ≡ true
+full-right [] d h = refl
+full-right (f ∷ fs) d h =
+    let r = and-right (eqb (f .low d) 0) (eqb (f .high d) (f .top) && full fs d) h in
+    let l : f .low d ≡ 0 = eqb-true (f .low d) 0 (and-left (eqb (f .low d) 0) (eqb (f .high d) (f .top) && full fs d) h) in
+    let k : f .high d ≡ f .top = eqb-true (f .high d) (f .top) (and-left (eqb (f .high d) (f .top)) (full fs d) r) in
+    rw (le-leb (f .low d) (f .high d) (omega arith), le-leb (f .high d) (f .top) (omega arith)) (full-right fs d (and-right (eqb (f .high d) (f .top)) (full fs d) r))

@@ -11,8 +11,11 @@ ghost use Rattle.tally.specs.Tally.{tallyAnswer, talliesLeft, cleared, differen
 ghost use Rattle.scan.specs.Scan.{scanValues};
 ghost use Rattle.live.specs.Live.{deadSays};
 ghost use Rattle.worst.specs.Worst.{worstSays};
+ghost use Rattle.frozen.specs.Frozen.{totalSays, totalGives, freezeSays, freezeWords, imageSays};
+ghost use Rattle.image.specs.Image.{imageLookup, imagePacket, imageTally, imageTallies};
 ghost use Rattle.reamstork.specs.Face.{ruleOf, ruleRead, checkSays};
 use audit::Count;
+use freeze::Size;
 use ipv4::Rule;
 use live::Life;
 use lookup::Found;
@@ -237,4 +240,78 @@ pub extern "C" fn reamstork_tally_difference(earlier: u32, later: u32) -> u32
     ensures { λ r. ⌜ r ≡ difference earlier later ⌝ }
 {
     tally::difference(earlier, later)
+}
+
+// Says how many words the image of a store takes.
+#[no_mangle]
+pub extern "C" fn reamstork_image_words(words: &[u32]) -> Size
+    ensures { λ r. ⌜ (r .answer ≡ totalSays ipv4 (now (words .entry))) × (r .words ≡ totalGives ipv4 (now (words .entry))) ⌝ }
+{
+    freeze::total(words)
+}
+
+// Freezes a store: its image is written into the first words of a slice.
+#[no_mangle]
+pub extern "C" fn reamstork_freeze(words: &[u32], image: &mut [u32]) -> u32
+    ensures { λ r. ⌜ (r ≡ freezeSays ipv4 (now (words .entry)) (now (image .entry))) × (now (image .exit) ≡ freezeWords ipv4 (now (words .entry)) (now (image .entry))) ⌝ }
+{
+    freeze::freeze(words, image)
+}
+
+// The image check: 0 where the words are an image of their exact length, else 9.
+#[no_mangle]
+pub extern "C" fn reamstork_image_check(image: &[u32]) -> u32
+    ensures { λ r. ⌜ r ≡ imageSays ipv4 (now (image .entry)) ⌝ }
+{
+    if inspect::check(image) { 0 } else { 9 }
+}
+
+// Looks six values up in an image.
+#[no_mangle]
+pub extern "C" fn reamstork_image_lookup(
+    image: &[u32],
+    destination: u32,
+    source: u32,
+    protocol: u32,
+    destination_port: u32,
+    source_port: u32,
+    portless: u32,
+) -> Found
+    ensures { λ r. ⌜ r ≡ imageLookup ipv4 (now (image .entry)) (destination ∷ source ∷ protocol ∷ «destination_port» ∷ «source_port» ∷ portless ∷ []) ⌝ }
+{
+    image::lookup(
+        image,
+        destination,
+        source,
+        protocol,
+        destination_port,
+        source_port,
+        portless,
+    )
+}
+
+// Looks an IPv4 packet up in an image; its bytes begin at its header.
+#[no_mangle]
+pub extern "C" fn reamstork_image_lookup_packet(image: &[u32], packet: &[u8]) -> Found
+    ensures { λ r. ⌜ r ≡ imagePacket (now (image .entry)) (now (packet .entry)) ⌝ }
+{
+    image::lookup_packet(image, packet)
+}
+
+// Looks an IPv4 packet up in an image, and adds to the tally of the rule that decides.
+#[no_mangle]
+pub extern "C" fn reamstork_image_lookup_packet_tally(
+    image: &[u32],
+    packet: &[u8],
+    tallies: &mut Tallies,
+) -> Found
+    ensures { λ r. ⌜ (r ≡ imageTally (now (image .entry)) (now (packet .entry)) (now (tallies .entry))) × (now (tallies .exit) ≡ imageTallies (now (image .entry)) (now (packet .entry)) (now (tallies .entry))) ⌝ }
+{
+    image::lookup_packet_tally(
+        image,
+        packet,
+        &mut tallies.key,
+        &mut tallies.packets,
+        &mut tallies.bytes,
+    )
 }

@@ -1,7 +1,7 @@
 -- The tree of rules that are right, with one that has all full ranges among them, is a tree over the fields' tops; and the values of a record within the tops are those that are right.
 -- Assumes nothing.
 use mathlib.Core.Path.{_≡_, refl, sym, ap, subst}
-use mathlib.Core.Logic.{_⊎_, inl, inr, ⊎-elim}
+use mathlib.Core.Logic.{inl, inr, ⊎-elim}
 use mathlib.Core.Bool.{true, _&&_}
 use mathlib.Core.List.{List, [], _∷_, map}
 use Prim.Native.Nat.{ℕ, zero, suc, _+_, _≤_, _<_}
@@ -17,8 +17,7 @@ use Rattle.model.proofs.Tests.{and-left, and-right, and-both}
 use Rattle.model.proofs.Keep.{in-keep, from-keep, in-right}
 use Rattle.model.proofs.Ends.{from-ends, in-ends, ends-rising}
 use Rattle.model.proofs.Walk.{full}
-use Rattle.model.proofs.Limits.{from-within, from-every}
-use Rattle.model.proofs.Decide.{default-full}
+use Rattle.model.proofs.Decide.{default-full, every-right}
 use Rattle.search.specs.Facts.{InTops}
 use Rattle.search.proofs.First.{Fits, Topped, leaf, last, more}
 
@@ -71,15 +70,6 @@ module _ {P A B : Type 0} (g : List A → B) (d : A) where
           let ht : f .high r ≤ f .top = leb-true (f .high r) (f .top) (and-left (leb (f .high r) (f .top)) _ (after r (t .1))) in
           ⊎-elim (λ (q : e ≡ f .high r). omega arith) (λ (q : suc e ≡ f .low r). omega arith) (t .2)
 
-  -- a rule that has all full ranges is right
-  full-right : (fs : List (Field P A)) → full fs d ≡ true → rangesRight fs d ≡ true
-  full-right [] h = refl
-  full-right (f ∷ fs) h =
-      let r = and-right (eqb (f .low d) 0) (eqb (f .high d) (f .top) && full fs d) h in
-      let l : f .low d ≡ 0 = eqb-true (f .low d) 0 (and-left (eqb (f .low d) 0) (eqb (f .high d) (f .top) && full fs d) h) in
-      let k : f .high d ≡ f .top = eqb-true (f .high d) (f .top) (and-left (eqb (f .high d) (f .top)) (full fs d) r) in
-      rw (le-leb (f .low d) (f .high d) (omega arith), le-leb (f .high d) (f .top) (omega arith)) (full-right fs (and-right (eqb (f .high d) (f .top)) (full fs d) r))
-
 -- OVER A KIND of store
 tops-from : (i : ℕ) (ts : List ℕ) → tops (fieldsFrom i ts) ≡ ts
 tops-from i [] = refl
@@ -87,17 +77,10 @@ tops-from i (t ∷ ts) = ap (λ l. t ∷ l) (tops-from (suc i) ts)
 
 pub topped-of : (k : Kind) (t : Table) → within k t ≡ true → Topped (k .tops) 0 (treeOf k t)
 topped-of k t h = subst (λ (l : List ℕ). Topped l 0 (treeOf k t)) (tops-from 0 (k .tops))
-    (topped-tree (least numberOf d) d (fields k) (everyRule k t) (in-right (t .rules) (d ∷ []) d (inl refl)) full-d
-    (λ r m. ⊎-elim
-    (λ (n : In r (t .rules)). and-left (rangesRight (fields k) r) _ (and-right (eqb (length (r .highs)) (length (k .tops))) _ (and-right (eqb (length (r .lows)) (length (k .tops))) _ (from-within k t h .right r n))))
-    (λ (q : r ≡ d). rw q (full-right (least numberOf d) d (fields k) full-d))
-    (from-every k t r m)))
+    (topped-tree (least numberOf d) d (fields k) (everyRule k t) (in-right (t .rules) (d ∷ []) d (inl refl)) (default-full k (t .action) 0 (k .tops) refl) (every-right k t h))
   where
     d : Rule
     d = defaultRule k (t .action)
-
-    full-d : full (fields k) d ≡ true
-    full-d = default-full k (t .action) 0 (k .tops) refl
 
 -- THE VALUES OF A RECORD. Those that fit the tops are within them:
 pub fits-length : (ts vs : List ℕ) → Fits ts vs → length vs ≡ length ts

@@ -61,17 +61,21 @@ slotAnswer Full = 13
 abbrev pub hasPlace : Place → Bool
 hasPlace p = eqb (slotAnswer p) 0
 
--- THE LOOKUP BY A PACKET THAT COUNTS: what it answers, "13 when a new number finds no place, after all others"; and the record that it leaves, as it was where the lookup is refused
-unfoldable pub tallyAnswer : List ℕ → List ℕ → Tallies → Found
-tallyAnswer words packet t =
-    let f = lookupPacket words packet in
+-- WHAT COUNTING MAKES of what a lookup by a packet found: the answer, "13 when a new number finds no place, after all others"; and the record that is left, as it was where the lookup is refused
+abbrev pub foundTally : Found → Tallies → Found
+foundTally f t =
     let p = placeOf (f .rule) (t .key) in
     cond (eqb (f .answer) 0) (cond (hasPlace p) f (refused (slotAnswer p))) f
 
+abbrev pub foundTallies : Found → List ℕ → Tallies → Tallies
+foundTallies f packet t = cond (eqb (f .answer) 0) (talliesWith (placeOf (f .rule) (t .key)) (f .rule) (totalLength packet) t) t
+
+-- THE LOOKUP BY A PACKET THAT COUNTS, over a store's words: what it answers, and the record that it leaves
+unfoldable pub tallyAnswer : List ℕ → List ℕ → Tallies → Found
+tallyAnswer words packet t = foundTally (lookupPacket words packet) t
+
 unfoldable pub talliesLeft : List ℕ → List ℕ → Tallies → Tallies
-talliesLeft words packet t =
-    let f = lookupPacket words packet in
-    cond (eqb (f .answer) 0) (talliesWith (placeOf (f .rule) (t .key)) (f .rule) (totalLength packet) t) t
+talliesLeft words packet t = foundTallies (lookupPacket words packet) packet t
 
 -- a record of three arrays
 abbrev pub tallies : List ℕ → List ℕ → List ℕ → Tallies

@@ -1,9 +1,10 @@
 // Tallies for each rule: how many packets it decided, and how many bytes they had. The lookup here is the lookup by a packet, and adds to the tally of the rule that decides.
 ghost use mathlib.Core.Path.{_≡_};
 ghost use mathlib.Core.Bool.{cond};
-ghost use Prim.Native.Nat.{_<_};
+ghost use Prim.Native.Nat.{_<_, _≤_};
 ghost use lib.Dec.{ltb};
-ghost use Rattle.tally.specs.Tally.{unused, keyed, placeOf, addedAt, hasPlace, talliesWith, tallyAnswer, talliesLeft, tallies, cleared, difference as differenceOf};
+ghost use lib.ListN.{length};
+ghost use Rattle.tally.specs.Tally.{unused, keyed, placeOf, addedAt, hasPlace, talliesWith, foundTally, foundTallies, tallyAnswer, talliesLeft, tallies, cleared, difference as differenceOf};
 use header::Header;
 use lookup::Found;
 
@@ -100,7 +101,28 @@ fn count(
     }
 }
 
-// The lookup of an IPv4 packet, with the record in three arrays: for the rule that decides it adds one packet and the packet's total length. 13 where the rule's number finds no place; then, and with every other refusal, nothing is changed.
+// Counts what a lookup by a packet found, with the record in three arrays: for the rule that decides it adds one packet and the packet's total length. 13 where the rule's number finds no place; then, and with every other refusal, nothing is changed.
+pub fn count_found(
+    found: Found,
+    packet: &[u8],
+    key: &mut [u32; 65],
+    packets: &mut [u32; 65],
+    bytes: &mut [u32; 65],
+) -> Found
+    requires { ⌜ (found .answer ≡ 0 → 20 ≤ length (now packet)) ⌝ }
+    ensures { λ r. ⌜ (r ≡ foundTally found (tallies (now (key .entry)) (now (packets .entry)) (now (bytes .entry)))) × (tallies (now (key .exit)) (now (packets .exit)) (now (bytes .exit)) ≡ foundTallies found (now (packet .entry)) (tallies (now (key .entry)) (now (packets .entry)) (now (bytes .entry)))) ⌝ }
+{
+    if found.answer != 0 {
+        return found;
+    }
+    let length = header::packet_length(packet);
+    if count(key, packets, bytes, found.rule, length) {
+        return found;
+    }
+    lookup::refuse(13)
+}
+
+// The lookup of an IPv4 packet in a store's words, with the record in three arrays: for the rule that decides it adds one packet and the packet's total length. 13 where the rule's number finds no place; then, and with every other refusal, nothing is changed.
 pub fn lookup_packet(
     words: &[u32],
     packet: &[u8],
@@ -123,14 +145,7 @@ pub fn lookup_packet(
         p.source_port,
         p.portless,
     );
-    if found.answer != 0 {
-        return found;
-    }
-    let length = header::packet_length(packet);
-    if count(key, packets, bytes, found.rule, length) {
-        return found;
-    }
-    lookup::refuse(13)
+    count_found(found, packet, key, packets, bytes)
 }
 
 // Clears a record in three arrays: every place is unused, and every count is 0.

@@ -27,7 +27,7 @@ use Rattle.tied.specs.Ties.{beginIn, treeBy, SaysAlike, Ties}
 use Rattle.tied.proofs.Cells.{part-tree}
 
 -- P holds of all that the tree names
-abbrev All : {A : Type 0} → (A → Type 0) → Tree A → Type 0
+abbrev pub All : {A : Type 0} → (A → Type 0) → Tree A → Type 0
 All P (names a) = P a
 All P stop = Unit {0}
 All P (loc e u t) = All P u × All P t
@@ -36,7 +36,7 @@ all-chain : {A : Type 0} (P : A → Type 0) (u : ℕ → Tree A) → ((e : ℕ) 
 all-chain P u h [] = tt
 all-chain P u h (e ∷ es) = (h e, all-chain P u h es)
 
-all-tree : {Q : Type 0} (P : ℕ → Type 0) → P 0 → (fs : List (Field Q ℕ)) (qs : List ℕ) → ((q : ℕ) → In q qs → P q) → All P (tree firstOf fs qs)
+pub all-tree : {Q : Type 0} (P : ℕ → Type 0) → P 0 → (fs : List (Field Q ℕ)) (qs : List ℕ) → ((q : ℕ) → In q qs → P q) → All P (tree firstOf fs qs)
 all-tree P z [] [] h = z
 all-tree P z [] (q ∷ qs) h = h q (inl refl)
 all-tree P z (f ∷ fs) qs h = all-chain P (λ e. tree firstOf fs (keep (covers f e) qs)) (λ e. all-tree P z fs (keep (covers f e) qs) (λ q m. h q (from-keep (covers f e) qs q m .0))) (ends f qs)

@@ -1,12 +1,13 @@
--- `tally::lookup_packet` meets its contract: one law for each answer.
+-- `tally::lookup_packet` meets its contract: what is counted is what the lookup by the packet says.
 -- Assumes nothing.
 use mathlib.Core.Path.{sym, ap, _∙_}
 use borrow.Author.Needs.{needs}
+use Rattle.header.specs.Facts.{values-are}
 use Rattle.header.proofs.Cases.{not-values}
 use Rattle.lookup.specs.declared.Found.{Found}
 use Rattle.lookup.specs.Walk.{refused}
 use Rattle.lookup.proofs.Steps.{no-values, by-values}
-use Rattle.tally.proofs.Steps.{long, refused-before, counts, no-place}
+use Rattle.tally.proofs.Steps.{refused-before, store-does}
 use Rattle.tally.proofs.lookup_packet.Statement.{statement}
 use Rattle.tally.proofs.lookup_packet.Tie as tie
 
@@ -21,28 +22,15 @@ lookup-packet-spec =
     -- the header gives no values
     (λ c.
     let m = c .before .before in
+    let a = m .before .before .before .before .args in
     let h = m .before .read-header .result in
     let n = not-values h (m .match .keys2) in
     let is = c .refuse .ensures ∙ ap refused (c .before .answer .ensures) in
-    refused-before _ _ _ (is ∙ no-values _ _ h (m .before .read-header .ensures) n) _ (λ z. n (sym (ap (λ (g : Found). g .answer) is) ∙ z)))
+    store-does _ _ _ _ (is ∙ no-values _ _ h (m .before .read-header .ensures) n) _ _ (refused-before (a .packet .now) _ _ (λ z. n (sym (ap (λ (g : Found). g .answer) is) ∙ z))))
     (λ c κs. search needs)
-    -- the lookup of its values is refused
-    (λ c. let l = c .before .before in refused-before _ _ _ (l .lookup .ensures ∙ by-values _ _ _ (sym (l .before .before .h .given .1) ∙ l .before .before .before .before .read-header .ensures)) _ (c .if1 .taken))
-    (λ c κs. let l = c .before .before in long _ _ _ (l .lookup .ensures ∙ by-values _ _ _ (sym (l .before .before .h .given .1) ∙ l .before .before .before .before .read-header .ensures)) (c .if1 .left))
-    (λ c κs. search needs)
-    -- the rule's number has a place
+    -- values are of a header that is long enough to have a total length
+    (λ c κs e. let l = c .before .before .before in values-are _ _ (sym (sym (l .before .before .h .given .1) ∙ l .before .before .before .before .read-header .ensures)) .0 .sound .long)
+    -- it gives them
     (λ c.
-    let counted = c .before .count .ensures in
-    let measured = c .before .before .before .before .before in
-    let looked = measured .before in
-    let l = looked .before .before in
-    counts _ _ _ (l .lookup .ensures ∙ by-values _ _ _ (sym (l .before .before .h .given .1) ∙ l .before .before .before .before .read-header .ensures)) _ (looked .if1 .left) _ (measured .packet-length .ensures .0) _ (counted .1) (sym (counted .0) ∙ c .if2 .taken))
-    (λ c κs. search needs)
-    -- it has none
-    (λ c.
-    let counted = c .before .before .count .ensures in
-    let measured = c .before .before .before .before .before .before in
-    let looked = measured .before in
-    let l = looked .before .before in
-    rw (c .refuse2 .ensures)
-    (no-place _ _ _ (l .lookup .ensures ∙ by-values _ _ _ (sym (l .before .before .h .given .1) ∙ l .before .before .before .before .read-header .ensures)) _ (looked .if1 .left) _ (measured .packet-length .ensures .0) _ (counted .1) (sym (counted .0) ∙ c .before .if2 .left))))
+    let l = c .before .before .before .before in
+    store-does _ _ _ _ (l .lookup .ensures ∙ by-values _ _ _ (sym (l .before .before .h .given .1) ∙ l .before .before .before .before .read-header .ensures)) _ _ (c .count-found .ensures)))

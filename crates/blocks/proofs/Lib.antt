@@ -1,0 +1,5 @@
+pub mod Levels
+pub mod Words
+pub mod Sums
+pub mod Writing
+pub mod Chains
