@@ -151,8 +151,8 @@ static uint32_t prune(void)
 
 int main(void)
 {
-	uint32_t counts[ACTIONS] = { 0 }, unreadable = 0, cut = 0, most = 0;
-	reamstork_most worst;
+	uint32_t counts[ACTIONS] = { 0 }, unreadable = 0, cut = 0, most = 0, blocks = 0, words;
+	reamstork_most worst, deepest;
 
 	if (reamstork_start_with(store, store_len, 1920, FORWARD) != REAMSTORK_DONE)
 		return 1;
@@ -180,7 +180,15 @@ int main(void)
 	/* Now that no more edits come, the same table for reading alone. */
 	if (reamstork_freeze(store, store_len, image, image_len) != REAMSTORK_DONE)
 		return 1;
-	printf("image: %" PRIu32 " words\n", reamstork_image_words(store, store_len).words);
+	words = reamstork_image_words(store, store_len).words;
+	printf("image: %" PRIu32 " words\n", words);
+
+	/* The sheet's number for frames that are decided by the image, which is told its exact words. */
+	deepest = reamstork_image_worst(image, words);
+	if (deepest.answer != REAMSTORK_DONE)
+		return 1;
+	printf("worst: %" PRIu32 " blocks", deepest.reads);
+	record(", first to ", deepest.value);
 
 	for (size_t i = 0; i < sizeof frames / sizeof frames[0]; i++) {
 		reamstork_found f = reamstork_lookup_packet_tally(store, store_len, frames[i].bytes, frames[i].len, &tallies);
@@ -198,6 +206,8 @@ int main(void)
 			counts[f.action]++;
 		if (f.reads > most)
 			most = f.reads;
+		if (g.reads > blocks)
+			blocks = g.reads;
 		printf("frame %zu: answer %" PRIu32 ", rule %" PRIu32 ", reads %" PRIu32 ", blocks %" PRIu32 "\n", i + 1, f.answer, f.rule, f.reads, g.reads);
 	}
 	for (int a = 0; a < ACTIONS; a++)
@@ -205,6 +215,6 @@ int main(void)
 	for (int i = 0; i < REAMSTORK_PLACES; i++)
 		if (tallies.key[i] <= REAMSTORK_DEFAULT)
 			printf("rule %" PRIu32 ": %" PRIu32 " packets, %" PRIu32 " bytes\n", tallies.key[i], tallies.packets[i], tallies.bytes[i]);
-	printf("unreadable: %" PRIu32 "\ncut short: %" PRIu32 "\nmost reads: %" PRIu32 "\n", unreadable, cut, most);
-	return most > worst.reads;
+	printf("unreadable: %" PRIu32 "\ncut short: %" PRIu32 "\nmost reads: %" PRIu32 "\nmost blocks: %" PRIu32 "\n", unreadable, cut, most, blocks);
+	return most > worst.reads || blocks > deepest.reads;
 }

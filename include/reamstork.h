@@ -195,9 +195,9 @@ extern "C" {
  * version than this, may be no store of this one: run reamstork_check
  * before the first lookup in them.
  */
-#define REAMSTORK_VERSION          "4.1"
+#define REAMSTORK_VERSION          "4.2"
 #define REAMSTORK_VERSION_MAJOR    4
-#define REAMSTORK_VERSION_MINOR    1
+#define REAMSTORK_VERSION_MINOR    2
 
 /*
  * LIMITS
@@ -538,6 +538,7 @@ reamstork_life reamstork_dead(const uint32_t *words, size_t len, uint32_t number
  * there: after an insert or a delete ask again.
  *
  * Each call runs the check once, and then goes through the tree once.
+ * For an image, whose lookups count blocks, ask reamstork_image_worst.
  */
 reamstork_most reamstork_worst(const uint32_t *words, size_t len);
 
@@ -739,6 +740,36 @@ uint32_t reamstork_freeze(const uint32_t *words, size_t len, uint32_t *image, si
  * words another image, such as another action.
  */
 uint32_t reamstork_image_check(const uint32_t *image, size_t len);
+
+/*
+ * FIND THE WORST PACKET OF AN IMAGE
+ *
+ * For the timing sheet of a program that decides frames by an image.
+ *
+ *   9  the image fails the check; len is the exact total there too
+ *   0  done: reads is the greatest count of blocks that
+ *      reamstork_image_lookup reports for any six values within their tops,
+ *      and value has the six values, in the order of the fields, of the
+ *      least record for which it reports that many
+ *
+ * Changes no word.  So no lookup over this image reads more blocks than
+ * reads, by values or by packet, and the lookup of value reads exactly that
+ * many.  The default alone gives 6 and six zeros.  No table gives less than
+ * 6, and none more than 18.
+ *
+ *     reamstork_most m = reamstork_image_worst(image, len);
+ *     if (m.answer == REAMSTORK_DONE)
+ *         worst_time = fixed_time + m.reads * time_of_a_block;
+ *
+ * Records are compared as in reamstork_worst, and values that no header
+ * gives count here too.  The answer is a function of the rules' ranges
+ * alone.  The worst packet of the store may be another one: there the cells
+ * below a value are counted, here the levels of blocks, whatever the value.
+ *
+ * Each call runs the image check once, and then goes through the rules that
+ * the image holds once.
+ */
+reamstork_most reamstork_image_worst(const uint32_t *image, size_t len);
 
 /*
  * LOOK UP SIX VALUES IN AN IMAGE

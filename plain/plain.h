@@ -33,6 +33,7 @@ reamstork_range plain_prefix(uint32_t address, uint32_t length);
 reamstork_size plain_image_words(const uint32_t *words, size_t len);
 uint32_t plain_freeze(const uint32_t *words, size_t len, uint32_t *image, size_t image_len);
 uint32_t plain_image_check(const uint32_t *image, size_t len);
+reamstork_most plain_image_worst(const uint32_t *image, size_t len);
 reamstork_found plain_image_lookup(const uint32_t *image, size_t len, uint32_t destination, uint32_t source, uint32_t protocol, uint32_t destination_port, uint32_t source_port, uint32_t portless);
 reamstork_found plain_image_lookup_packet(const uint32_t *image, size_t len, const uint8_t *packet, size_t packet_len);
 reamstork_found plain_image_lookup_packet_tally(const uint32_t *image, size_t len, const uint8_t *packet, size_t packet_len, reamstork_tallies *tallies);

@@ -35,6 +35,7 @@ struct library {
 	reamstork_size (*image_words)(const uint32_t *, size_t);
 	uint32_t (*freeze)(const uint32_t *, size_t, uint32_t *, size_t);
 	uint32_t (*image_check)(const uint32_t *, size_t);
+	reamstork_most (*image_worst)(const uint32_t *, size_t);
 	reamstork_found (*image_lookup)(const uint32_t *, size_t, uint32_t, uint32_t, uint32_t, uint32_t, uint32_t, uint32_t);
 	reamstork_found (*image_lookup_packet)(const uint32_t *, size_t, const uint8_t *, size_t);
 	reamstork_found (*image_tally)(const uint32_t *, size_t, const uint8_t *, size_t, reamstork_tallies *);
@@ -42,9 +43,9 @@ struct library {
 
 static const struct library both[2] = {
 	{ reamstork_insert, reamstork_delete, reamstork_check, reamstork_dead, reamstork_worst, reamstork_lookup, reamstork_lookup_packet, reamstork_lookup_packet_tally, reamstork_scan,
-	  reamstork_image_words, reamstork_freeze, reamstork_image_check, reamstork_image_lookup, reamstork_image_lookup_packet, reamstork_image_lookup_packet_tally },
+	  reamstork_image_words, reamstork_freeze, reamstork_image_check, reamstork_image_worst, reamstork_image_lookup, reamstork_image_lookup_packet, reamstork_image_lookup_packet_tally },
 	{ plain_insert, plain_delete, plain_check, plain_dead, plain_worst, plain_lookup, plain_lookup_packet, plain_lookup_packet_tally, plain_scan,
-	  plain_image_words, plain_freeze, plain_image_check, plain_image_lookup, plain_image_lookup_packet, plain_image_lookup_packet_tally },
+	  plain_image_words, plain_freeze, plain_image_check, plain_image_worst, plain_image_lookup, plain_image_lookup_packet, plain_image_lookup_packet_tally },
 };
 
 static _Alignas(64) uint32_t words[REAMSTORK_WORDS(65536)];
@@ -306,6 +307,17 @@ static void check_image(const struct library *l, double *took)
 	took[0] = (now() - from) / TIMES;
 }
 
+static void worst_of_image(const struct library *l, double *took)
+{
+	enum { TIMES = 4 };
+	double from = now();
+
+	for (int i = 0; i < TIMES; i++)
+		if (l->image_worst(image, image_len).answer != 0)
+			fail("the worst packet of an image is refused");
+	took[0] = (now() - from) / TIMES;
+}
+
 static int rising(const void *a, const void *b)
 {
 	double x = *(const double *)a, y = *(const double *)b;
@@ -469,6 +481,7 @@ static void describe_image(void)
 {
 	uint32_t most = 0, least = UINT32_MAX;
 	uint64_t blocks = 0;
+	reamstork_most worst = plain_image_worst(image, image_len);
 
 	memset(second, 0x55, sizeof second);
 	if (reamstork_image_words(words, len).words != image_len || reamstork_freeze(words, len, second, image_len) != 0 || memcmp(image, second, image_len * sizeof *image) != 0)
@@ -491,7 +504,10 @@ static void describe_image(void)
 		if (f.reads > most)
 			most = f.reads;
 	}
-	printf("  image: %u blocks, %u words; blocks read %u to %u, mean %.1f\n", (unsigned)(image_len - 1024) / 16, (unsigned)image_len, least, most, (double)blocks / PACKETS);
+	same_most(worst, reamstork_image_worst(image, image_len));
+	if (most > worst.reads)
+		fail("a packet reads more blocks than the worst");
+	printf("  image: %u blocks, %u words; blocks read %u to %u, mean %.1f, worst of any values %u\n", (unsigned)(image_len - 1024) / 16, (unsigned)image_len, least, most, (double)blocks / PACKETS, worst.reads);
 }
 
 /* Says what the sample is, and that both libraries answer alike. */
@@ -561,6 +577,7 @@ static void times(uint32_t n, uint32_t c, uint32_t budget, int overlap)
 	measure_over(count_image, check, "image_words", "image_words, over a check");
 	measure_over(freeze, check, "freeze", "freeze, over a check");
 	measure_over(check_image, check, "image_check", "image_check, over a check");
+	measure_over(worst_of_image, check_image, "image_worst", "image_worst, over its check");
 	printf("\n");
 	fflush(stdout);
 }
@@ -626,8 +643,8 @@ static int lookups(const char *name, const char *call, const char *which)
 
 /*
  * For callgrind too: one check, insert or delete, of the rule in the middle;
- * the life of that rule; the worst packet; the image, its words or its
- * check; or none, for what drawing the sample takes.
+ * the life of that rule; the worst packet; the image, its words, its check
+ * or its worst packet; or none, for what drawing the sample takes.
  */
 static int one_edit(const char *name, const char *call, char **sample)
 {
@@ -652,6 +669,8 @@ static int one_edit(const char *name, const char *call, char **sample)
 		wrong = l->freeze(words, len, image, IMAGE_MOST);
 	else if (strcmp(call, "image_check") == 0)
 		wrong = l->image_check(image, image_len);
+	else if (strcmp(call, "image_worst") == 0)
+		wrong = l->image_worst(image, image_len).answer;
 	else if (strcmp(call, "delete") == 0)
 		wrong = l->delete(words, len, r->number);
 	else

@@ -123,7 +123,7 @@ one() {
 for sample in '10 1920 400 0' '60 1920 1900 0' '60 65536 60000 1'; do
 	echo
 	echo "Instructions of one call, $sample (rules, c, cells at most, overlapping)"
-	for call in check dead worst insert delete image_words freeze image_check; do
+	for call in check dead worst insert delete image_words freeze image_check image_worst; do
 		echo "$call $(one reamstork $call "$sample") $(one plain $call "$sample")"
 	done | awk '
 		{ printf "  %-24s %12d    %12d    %8.2f\n", $1, $2, $3, $2 / $3 }

@@ -155,6 +155,11 @@ static void image_check(void)
 	answer |= reamstork_image_check(image, image_len);
 }
 
+static void image_worst(void)
+{
+	answer |= reamstork_image_worst(image, image_len).answer;
+}
+
 static void image_lookup(void)
 {
 	answer |= reamstork_image_lookup(image, image_len, values[0], values[1], values[2], values[3], values[4], values[5]).answer;
@@ -233,6 +238,7 @@ int main(void)
 	say("reamstork_image_words", used(image_words) - base);
 	say("reamstork_freeze", used(freeze) - base);
 	say("reamstork_image_check", used(image_check) - base);
+	say("reamstork_image_worst", used(image_worst) - base);
 	say("reamstork_image_lookup", used(image_lookup) - base);
 	say("reamstork_image_lookup_packet", used(image_lookup_packet) - base);
 	say("reamstork_image_lookup_packet_tally", used(image_lookup_packet_tally) - base);

@@ -12,9 +12,9 @@ from array import array
 from pathlib import Path
 
 from loads import (BASE, CELLS, CHECK, CLEAR, DEAD, DELETE, DIFFERENCE, FILL, FREEZE, GET,
-                   IMAGE_CHECK, IMAGE_LOOKUP, IMAGE_PACKET, IMAGE_TALLY, IMAGE_WORDS, INSERT,
-                   LOOKUP, LOOKUP_PACKET, LOOKUP_TALLY, PLACES, PREFIX, READ, RULE_AT, SCAN, START,
-                   START_WITH, WORST, Call)
+                   IMAGE_CHECK, IMAGE_LOOKUP, IMAGE_PACKET, IMAGE_TALLY, IMAGE_WORDS, IMAGE_WORST,
+                   INSERT, LOOKUP, LOOKUP_PACKET, LOOKUP_TALLY, PLACES, PREFIX, READ, RULE_AT, SCAN,
+                   START, START_WITH, WORST, Call)
 
 ROOT = Path(__file__).resolve().parent.parent
 # valgrind runs programs of its own machine alone: the archive is that for this one
@@ -25,7 +25,7 @@ GIVEN = {START: 1, START_WITH: 1, INSERT: 1, DELETE: 1, CHECK: 1, READ: 15,
          RULE_AT: 15, DEAD: 8, WORST: 8, CELLS: 2, LOOKUP: 4,
          LOOKUP_PACKET: 4, LOOKUP_TALLY: 4 + 3 * PLACES, SCAN: 3, PREFIX: 3, CLEAR: 0,
          DIFFERENCE: 1, IMAGE_WORDS: 2, FREEZE: 1, IMAGE_CHECK: 1, IMAGE_LOOKUP: 4,
-         IMAGE_PACKET: 4, IMAGE_TALLY: 4 + 3 * PLACES}
+         IMAGE_PACKET: 4, IMAGE_TALLY: 4 + 3 * PLACES, IMAGE_WORST: 8}
 # else valgrind leaves out a load whose value is not used, and on Arm no atomic store succeeds
 EVERY = ('--vex-iropt-level=0', *['--sim-hints=fallback-llsc'] * ARM)
 # the C library copies by instructions that a trace has one line for, not one for each byte

@@ -16,7 +16,8 @@ RESET, MAKE, LEND, SET, GET, DIGEST, SAME, COPY = range(8)
 (START, START_WITH, INSERT, DELETE, CHECK, READ, CELLS, LOOKUP, PACKET, PREFIX, SCAN,
  RULE_AT, DEAD, WORST) = range(16, 30)
 TALLY, CLEAR, DIFFERENCE, RECORDS = range(32, 36)
-IMAGE_WORDS, FREEZE, IMAGE_CHECK, IMAGE_LOOKUP, IMAGE_PACKET, IMAGE_TALLY = range(40, 46)
+(IMAGE_WORDS, FREEZE, IMAGE_CHECK, IMAGE_LOOKUP, IMAGE_PACKET, IMAGE_TALLY,
+ IMAGE_WORST) = range(40, 47)
 RECORD = 3 * 65
 NAMES = {RESET: 'reset', MAKE: 'make', LEND: 'lend', SET: 'set', GET: 'get', DIGEST: 'digest',
          SAME: 'same', COPY: 'copy', START: 'start', START_WITH: 'start_with', INSERT: 'insert',
@@ -26,12 +27,12 @@ NAMES = {RESET: 'reset', MAKE: 'make', LEND: 'lend', SET: 'set', GET: 'get', DIG
          CLEAR: 'tallies_clear', DIFFERENCE: 'tally_difference', RECORDS: 'scan of records',
          IMAGE_WORDS: 'image_words', FREEZE: 'freeze', IMAGE_CHECK: 'image_check',
          IMAGE_LOOKUP: 'image_lookup', IMAGE_PACKET: 'image_lookup_packet',
-         IMAGE_TALLY: 'image_lookup_packet_tally'}
+         IMAGE_TALLY: 'image_lookup_packet_tally', IMAGE_WORST: 'image_worst'}
 SIZES = {RESET: 0, MAKE: 0, LEND: 0, SET: 0, DIGEST: 2, SAME: 1, COPY: 0, START: 1, START_WITH: 1,
          INSERT: 1, DELETE: 1, CHECK: 1, READ: 15, CELLS: 2, LOOKUP: 4, PACKET: 4, PREFIX: 3,
          SCAN: 66, RULE_AT: 15, DEAD: 8, WORST: 8, TALLY: 4 + RECORD, CLEAR: RECORD, DIFFERENCE: 1,
          RECORDS: 3, IMAGE_WORDS: 2, FREEZE: 1, IMAGE_CHECK: 1, IMAGE_LOOKUP: 4, IMAGE_PACKET: 4,
-         IMAGE_TALLY: 4 + RECORD}
+         IMAGE_TALLY: 4 + RECORD, IMAGE_WORST: 8}
 EDITS = (MAKE, LEND, SET, COPY, START, START_WITH, INSERT, DELETE, FREEZE)
 INTO_ANOTHER = (COPY, FREEZE)  # these write the second of two stores
 GUARDED, END_AT_WALL, FRONT_AT_WALL = range(3)
@@ -213,6 +214,9 @@ class Talk:
 
     def image_check(self, image, want=None):
         self.queue_command(IMAGE_CHECK, (image,), want)
+
+    def image_worst(self, image, want=None):
+        self.queue_command(IMAGE_WORST, (image,), want)
 
     def image_lookup(self, image, values, want=None):
         self.queue_command(IMAGE_LOOKUP, (image,) + tuple(values), want)

@@ -50,7 +50,7 @@ enum {
   WORST = 29,
   TALLY = 32, CLEAR = 33, DIFFERENCE = 34, RECORDS = 35,
   IMAGE_WORDS = 40, FREEZE = 41, IMAGE_CHECK = 42, IMAGE_LOOKUP = 43, IMAGE_PACKET = 44,
-  IMAGE_TALLY = 45
+  IMAGE_TALLY = 45, IMAGE_WORST = 46
 };
 
 /* How a store lies in memory. */
@@ -365,8 +365,9 @@ static void look(uint32_t op) {
     out[0] = life.answer, out[1] = life.dead;
     memcpy(out + 2, life.value, sizeof life.value);
   }
-  if (op == WORST) {
-    reamstork_most most = reamstork_worst(s->words, s->lent);
+  if (op == WORST || op == IMAGE_WORST) {
+    reamstork_most most = op == WORST ? reamstork_worst(s->words, s->lent)
+                                      : reamstork_image_worst(s->words, s->lent);
     uint32_t *out = give(2 + REAMSTORK_FIELDS);
     out[0] = most.answer, out[1] = most.reads;
     memcpy(out + 2, most.value, sizeof most.value);
@@ -479,7 +480,7 @@ static void run_batch(void) {
     else if (op == DIFFERENCE) call_difference();
     else if (op == RECORDS) call_records();
     else if (op == FREEZE) call_freeze();
-    else if ((op >= CHECK && op <= WORST) || op == TALLY || (op >= IMAGE_WORDS && op <= IMAGE_TALLY)) look(op);
+    else if ((op >= CHECK && op <= WORST) || op == TALLY || (op >= IMAGE_WORDS && op <= IMAGE_WORST)) look(op);
     else stop("no such command");
   }
   for (size_t i = 0; i < STORES; i++) compare_late(&stores[i]);

@@ -1,4 +1,4 @@
-/* What the header has beside the calls: the names of the fields, the texts of the answers, a rule that was read handed to a scan and to an insert, and a table listed and loaded again; its examples of packets that are refused; rules that never win; the worst packet of a table; and its image.
+/* What the header has beside the calls: the names of the fields, the texts of the answers, a rule that was read handed to a scan and to an insert, and a table listed and loaded again; its examples of packets that are refused; rules that never win; the worst packet of a table, and of its image; and the image.
 
        face answers      a line for each answer, number and text
        face version      the version, and the same from its two numbers
@@ -260,6 +260,36 @@ static int same_found(reamstork_found f, uint32_t answer, uint32_t rule, uint32_
   return f.answer == answer && f.rule == rule && f.action == action && f.reads == reads;
 }
 
+/* The worst packet of an image: the ports of four rules for one destination and protocol have 9 ends, which take two levels of blocks. */
+static int depths(void) {
+  static uint32_t image[REAMSTORK_IMAGE_WORDS_MOST(100)];
+  const uint32_t zeros[REAMSTORK_FIELDS] = { 0 }, first[REAMSTORK_FIELDS] = { 10, 0, 6, 0, 0, 0 };
+  uint32_t low[REAMSTORK_FIELDS] = { 10, 0, 6, 0, 0, 0 }, high[REAMSTORK_FIELDS] = { 10, REAMSTORK_TOP_ADDRESS, 6, 0, REAMSTORK_TOP_PORT, 0 };
+  size_t words;
+
+  SURE(reamstork_start(one, len, 100) == REAMSTORK_DONE);
+  SURE(reamstork_freeze(one, len, image, sizeof image / 4) == REAMSTORK_DONE);
+  SURE(same_most(reamstork_image_worst(image, reamstork_image_words(one, len).words), REAMSTORK_DONE, 6, zeros));
+  for (uint32_t n = 1; n <= 4; n++) {
+    low[REAMSTORK_DESTINATION_PORT] = high[REAMSTORK_DESTINATION_PORT] = 100 * n;
+    SURE(reamstork_insert(one, len, n, 1, low, high) == REAMSTORK_DONE);
+  }
+  words = reamstork_image_words(one, len).words;
+  SURE(reamstork_freeze(one, len, image, sizeof image / 4) == REAMSTORK_DONE);
+  SURE(same_most(reamstork_image_worst(image, words), REAMSTORK_DONE, 7, first));
+  SURE(reamstork_image_lookup(image, words, 10, 0, 6, 0, 0, 0).reads == 7 && reamstork_image_lookup(image, words, 9, 0, 6, 0, 0, 0).reads == 6);
+
+  /* refused with zeros: a word more or less, a block damaged, a store */
+  SURE(same_most(reamstork_image_worst(image, words - 1), REAMSTORK_BAD_STORE, 0, zeros));
+  SURE(same_most(reamstork_image_worst(image, words + 1), REAMSTORK_BAD_STORE, 0, zeros));
+  image[1024] ^= 1;
+  SURE(same_most(reamstork_image_worst(image, words), REAMSTORK_BAD_STORE, 0, zeros));
+  image[1024] ^= 1;
+  SURE(same_most(reamstork_image_worst(image, words), REAMSTORK_DONE, 7, first));
+  SURE(same_most(reamstork_image_worst(one, len), REAMSTORK_BAD_STORE, 0, zeros));
+  return 0;
+}
+
 /* A table frozen, as the header tells of it. */
 static int images(void) {
   static _Alignas(64) uint32_t image[REAMSTORK_IMAGE_WORDS_MOST(100)], copy[REAMSTORK_IMAGE_WORDS_MOST(100)];
@@ -339,5 +369,5 @@ int main(int argc, char **argv) {
     printf("%s\n%d.%d\n", REAMSTORK_VERSION, REAMSTORK_VERSION_MAJOR, REAMSTORK_VERSION_MINOR);
     return 0;
   }
-  return rules() || packets() || lives() || worsts() || images();
+  return rules() || packets() || lives() || worsts() || depths() || images();
 }

@@ -3,19 +3,21 @@
 import itertools
 
 import drive
-from dead import NONE, WORD, loaded, spanned
+from dead import NONE, WORD, corners, loaded, spanned
 from edits import wander
 from image import (BLOCK, DOWN, FRONT, KEYS, UNUSED, image, image_check, image_walk,
-                   image_walk_packet)
+                   image_walk_packet, table_in)
 from laid import laid
 from portless import rule_of
-from reference import (BENCH_RULES, DEFAULT, MOST_CELLS, TOPS, Tally,
-                       count_cells, default_rule, levels, words_needed)
+from reference import (BENCH_RULES, DEFAULT, MOST_CELLS, TOPS, Tally, count_cells,
+                       deepest_record, default_rule, levels, winner_and_blocks, words_needed)
 from store import HOWS, expect, fresh
 from tables import World, packet_of, random_packet, values_above, values_near
 from tallies import CLEAR, some_record
+from worst import around, lesser
 
 REFUSED = (9, 0, 0, 0)
+NO_WORST = (9, 0) + NONE
 
 
 # ---- what is asked of one image ----
@@ -67,11 +69,53 @@ def count(talk, area, packet, record, found):
     return tally.words()
 
 
+def by_trying(rules):
+    """The greatest count of blocks of all corners, and the first one that reads it. None where
+    there are too many."""
+    records = corners(rules)
+    if records is None:
+        return None
+    greatest, first = 0, None
+    for record in records:
+        blocks = winner_and_blocks(rules, record)[1]
+        if blocks > greatest:
+            greatest, first = blocks, record
+    return greatest, first
+
+
+def deepest(store, rng, area, words, others=8):
+    """The worst packet of an image, by the reference and by the library. The lookup of the record
+    reads so many blocks, lesser ones read fewer, and no record reads more."""
+    talk, account = store.talk, store.account
+    want = account.image_worst()
+    blocks, record = want[1], want[2:]
+    table = account.table()
+    talk.image_worst(area, want)
+    expect(look(store, area, words, record) == blocks, 'the reference shows other blocks')
+    below = list(lesser(rng, record, table))
+    for values in rng.sample(below, min(len(below), others)):
+        expect(look(store, area, words, values) < blocks, 'the reference shows no least record')
+    for values in itertools.chain(around(record), (values_near(rng, table) for _ in range(others))):
+        expect(look(store, area, words, values) <= blocks, 'the reference shows no greatest count')
+    # field 6 has at most two ends, so that one of six fields takes one block
+    expect(6 <= blocks <= 16, 'the reference leaves the bounds')
+    tried = by_trying(table)
+    if tried is not None:
+        expect(tried == (blocks, record), 'the reference gives %s and trying %s for %s' % (
+            want, tried, table))
+        talk.note('worst packets of images by trying every record too')
+    talk.note('worst packets of images')
+    if blocks > 6:
+        talk.note('worst packets of images above 6 blocks')
+    return want
+
+
 def ask(store, rng, area, words, lookups=20):
     """Everything that can be asked of an image."""
     talk, account = store.talk, store.account
     table = account.table()
     talk.image_check(area, 0)
+    deepest(store, rng, area, words, 4)
     record = some_record(rng, [rule.number for rule in table])
     for _ in range(lookups):
         values = values_near(rng, table)
@@ -84,6 +128,7 @@ def ask(store, rng, area, words, lookups=20):
         record = count(talk, area, packet, record, found)
     talk.image_check(area, 0)
     talk.check(area, 9)
+    talk.worst(area, NO_WORST)
     talk.image_words(area, (9, 0))
 
 
@@ -157,6 +202,58 @@ def frozen_deep(talk, rng):
     talk.flush()
 
 
+def frozen_worst(talk, rng):
+    """The worst packets of images, worked out by hand, their numbers written out here."""
+    def asked(rules, blocks, *record, c=4000):
+        store = loaded(talk, rng, rules, c)
+        area, words = freeze(store, rng)
+        want = (0, blocks) + record
+        expect(store.account.image_worst() == want, 'the reference and the page: %s of %s' % (
+            store.account.image_worst(), rules))
+        talk.image_worst(area, want)
+        deepest(store, rng, area, words)
+        talk.flush()
+        talk.stores = 0
+
+    def ports(destination, number, count):
+        """So many rules for one destination and TCP, each with a port apart from the others:
+        two ends for each and the top."""
+        return [rule_of(number + i, i, (destination,) * 2, protocol=(6, 6),
+                        destination_port=(100 * i + 100,) * 2, portless=(0, 0))
+                for i in range(count)]
+
+    # nothing that tells values apart: the first record of all
+    asked([], 6, *NONE, c=6)
+    asked(BENCH_RULES, 6, *NONE)
+    asked([rule_of(n, 1) for n in (3, 4, 65534)], 6, *NONE)
+    # up to 8 ends of a field in one block, 9 to 64 on two levels, above 64 on three; all values
+    # read as many, the ends of a field being those of all rules that hold the values before
+    for m, blocks in ((8, 6), (9, 7), (64, 7), (65, 8), (129, 8)):
+        for field in rng.sample(range(5), 2):
+            asked(of_ends(m, field), blocks, *NONE, c=1920)
+    # the ports of one destination: the rest reads 6
+    asked(ports(10, 0, 3), 6, *NONE)
+    asked(ports(10, 0, 4), 7, 10, 0, 6, 0, 0, 0)
+    asked(ports(10, 0, 32), 8, 10, 0, 6, 0, 0, 0)
+    # of records that tie the least: of two destinations the lower, whatever its number
+    for first, second in ((10, 20), (20, 10)):
+        asked(ports(first, 0, 4) + ports(second, 40, 4), 7, 10, 0, 6, 0, 0, 0)
+    # one level more at the higher one, and no tie
+    asked(ports(10, 0, 4) + ports(20, 40, 32), 8, 20, 0, 6, 0, 0, 0)
+    # at the top of fields, and nowhere else
+    top = [rule_of(i, i, (WORD, WORD), (WORD, WORD), (255, 255), (7 * i, 7 * i), portless=(0, 0))
+           for i in range(5)]
+    asked(top, 7, WORD, WORD, 255, 0, 0, 0)
+    # several fields at once, below one value of each
+    both = [rule_of(i, i, (50, 50), (3 * i + 1,) * 2) for i in range(4)]
+    both += [rule_of(10 + i, i, (50, 50), (4, 4), (5 * i + 1,) * 2) for i in range(4)]
+    asked(both, 8, 50, 4, 0, 0, 0, 0)
+    # a full table: each rule with two ends of its own in field 1, and in field 2 those of all
+    # rules that hold the destination
+    asked([rule_of(i, i, (1 + i, WORD - 1 - i), (3 * i + 1,) * 2) for i in range(64)], 10,
+          *(32, 0, 0, 0, 0, 0), c=MOST_CELLS)
+
+
 def frozen_lengths(talk, rng):
     """The slice that a freeze is lent: exact, short by any number, longer; and 9 before 8."""
     for rules in ([], BENCH_RULES, of_ends(65, 0)):
@@ -180,6 +277,7 @@ def frozen_lengths(talk, rng):
                 talk.freeze(store.id, area, n, 0)
                 same_words(talk, area, words)
                 talk.image_check(area, 0 if length == n else 9)
+                talk.image_worst(area, store.account.image_worst() if length == n else NO_WORST)
                 talk.image_lookup(area, NONE, store.account.image_lookup(NONE))
             talk.lend(area, n)
             talk.image_check(area, 0)
@@ -220,6 +318,7 @@ def frozen_refusals(talk, rng):
     talk.image_words(store.id, (9, 0))
     talk.set(store.id, 0, words)
     talk.image_check(store.id, 9)
+    talk.image_worst(store.id, NO_WORST)
     talk.check(store.id, 0)
     talk.flush()
 
@@ -241,11 +340,9 @@ def frozen_pokes(talk, rng):
             for new in {old ^ 1, old ^ 1 << rng.randrange(32), rng.choice((0, WORD, DOWN, old + 1))}:
                 changed = list(words)
                 changed[position] = new = new % 2 ** 32
-                want = image_check(changed)
-                if want == 0 and new != old:
-                    passed.add(position)
                 talk.set(area, position, [new])
-                talk.image_check(area, want)
+                if over_check(talk, area, changed) == 0 and new != old:
+                    passed.add(position)
             talk.set(area, position, [old])
         # numbers and actions; an end of a rule alone where a lesser one holds what comes or goes
         parts = range(2) if len(rules) < 3 else range(14)
@@ -258,6 +355,7 @@ def frozen_pokes(talk, rng):
             if length != len(words):
                 talk.lend(area, length)
                 talk.image_check(area, 9)
+                talk.image_worst(area, NO_WORST)
         talk.flush()
         talk.stores = 0
 
@@ -281,10 +379,9 @@ def frozen_most(talk, rng):
     far = nested(26, 1000, 100, 3) + [default_rule(3)]
     for table, want in ((most, 0), (more, 9), (far, 9)):
         words = image(tuple(table))
-        expect(image_check(words) == want, 'the reference and the page')
         area = talk.make(len(words), drive.END_AT_WALL)
         talk.set(area, 0, words)
-        talk.image_check(area, want)
+        expect(over_check(talk, area, words) == want, 'the reference and the page')
         # a lookup takes either: it does not run the check
         for values in [(1100, 1100, 100, 0, 0, 0)] + [values_near(rng, table) for _ in range(10)]:
             talk.image_lookup(area, values, image_walk(words, values))
@@ -434,6 +531,21 @@ def frozen_worlds(talk, rng):
         talk.stores -= 3
 
 
+def worst_of(words):
+    """What the call says of the words of an image that passes: by the table that they hold."""
+    blocks, record = deepest_record(table_in(tuple(words[:FRONT])))
+    return (0, blocks) + record
+
+
+def over_check(talk, area, words):
+    """The image check over any words, and the worst packet: 9 with zeros exactly where the check
+    says 9. Gives what the check says."""
+    want = image_check(words)
+    talk.image_check(area, want)
+    talk.image_worst(area, worst_of(words) if want == 0 else NO_WORST)
+    return want
+
+
 def some_damage(talk, rng, area, words):
     """Words of an image here and there, and its length: 9, or another image."""
     for _ in range(12):
@@ -442,11 +554,12 @@ def some_damage(talk, rng, area, words):
         changed = list(words)
         changed[position] ^= 1 << rng.randrange(32)
         talk.set(area, position, [changed[position]])
-        talk.image_check(area, image_check(changed))
+        over_check(talk, area, changed)
         talk.set(area, position, [words[position]])
     for shorter in (1, 16, rng.randrange(1, len(words))):
         talk.lend(area, len(words) - shorter)
         talk.image_check(area, 9)
+        talk.image_worst(area, NO_WORST)
     talk.lend(area, len(words))
     talk.image_check(area, 0)
 
@@ -529,7 +642,7 @@ def over_any(talk, rng, area, words, table):
     """Each call over any words, in an area that has room for them."""
     talk.set(area, 0, words)
     talk.lend(area, len(words))
-    talk.image_check(area, image_check(words))
+    over_check(talk, area, words)
     for _ in range(6):
         values = values_near(rng, table)
         talk.image_lookup(area, values, image_walk(words, values))

@@ -82,6 +82,8 @@ def question(talk, rng, store, lent, table):
         talk.dead(store, number)
     talk.worst(store)
     talk.image_words(store)
+    # the words of a store, damaged or not, are no image
+    talk.image_worst(store, (9,) + (0,) * 7)
     for _ in range(4):
         values = values_near(rng, table)
         asked += [(0, values)] * 2

@@ -24,7 +24,7 @@ from drive import Disagreement, Driver, Talk
 from edits import crowd, edits, fit, histories, large
 from frozen import (frozen_alike, frozen_cycles, frozen_deep, frozen_examples, frozen_hostile,
                     frozen_lengths, frozen_mazes, frozen_most, frozen_orders, frozen_pokes,
-                    frozen_refusals, frozen_worlds)
+                    frozen_refusals, frozen_worlds, frozen_worst)
 from hostile import garbage, hostile, hostile_large, mazes
 from limits import (any_words_before, bench_table, every_length, order_of_refusals,
                     seven_before_nine, sixty_four, sizes_of_a_walk, starts)
@@ -41,8 +41,8 @@ FIXED = [bench_table, starts, any_words_before, every_length, sizes_of_a_walk, s
          bench_list, corners, port_rule, request_example, who_has_ports, most_reads,
          port_rule_damage, cut_examples, cut_grid, dead_examples, dead_ports, dead_sixty_four,
          dead_refusals, worst_examples, worst_ties, worst_tops, worst_sixty_four, worst_damage,
-         frozen_examples, frozen_deep, frozen_lengths, frozen_refusals, frozen_pokes, frozen_most,
-         frozen_orders, frozen_cycles]
+         frozen_examples, frozen_deep, frozen_worst, frozen_lengths, frozen_refusals, frozen_pokes,
+         frozen_most, frozen_orders, frozen_cycles]
 
 # In this order again and again; the costly ones come seldom.
 RANDOM = [edits, hostile, fit, headers, frozen_worlds, edits, histories, hostile, garbage, edits,

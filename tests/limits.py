@@ -35,6 +35,7 @@ def bench_table(talk, rng):
         image = talk.make(BENCH_IMAGE)
         talk.freeze(store.id, image, BENCH_IMAGE, 0)
         talk.image_check(image, 0)
+        talk.image_worst(image, (0, 6) + (0,) * 6)
         for row in BENCH_LOOKUPS:
             talk.lookup(store.id, bench_values(row), row[3])
             talk.packet(store.id, packet_of(bench_values(row)), row[3])
@@ -143,6 +144,7 @@ def every_length(talk, rng):
             talk.dead(store.id, number, life if good else (9,) + (0,) * 7)
         talk.worst(store.id, (0, 6) + (0,) * 6 if good else (9,) + (0,) * 7)
         talk.image_words(store.id, (0, LEAST_IMAGE) if good else (9, 0))
+        talk.image_worst(store.id, (9,) + (0,) * 7)
         for room in (0, LEAST_IMAGE - 1, LEAST_IMAGE):
             talk.lend(image, room)
             talk.freeze(store.id, image, LEAST_IMAGE,

@@ -29,8 +29,9 @@ HEADER_BYTES = {0, 2, 3, 6, 7, 9, *range(12, 20)}
 # The commands of trace.c, and where it puts what it lends.
 (FILL, GET, START, START_WITH, INSERT, DELETE, CHECK, READ, RULE_AT, DEAD, WORST, CELLS, LOOKUP,
  LOOKUP_PACKET, LOOKUP_TALLY, SCAN, PREFIX, CLEAR, DIFFERENCE, IMAGE_WORDS, FREEZE, IMAGE_CHECK,
- IMAGE_LOOKUP, IMAGE_PACKET, IMAGE_TALLY) = range(25)
-IMAGE_CALLS = (IMAGE_CHECK, IMAGE_LOOKUP, IMAGE_PACKET, IMAGE_TALLY)  # their words are an image's
+ IMAGE_LOOKUP, IMAGE_PACKET, IMAGE_TALLY, IMAGE_WORST) = range(26)
+# the words of these are an image's
+IMAGE_CALLS = (IMAGE_CHECK, IMAGE_LOOKUP, IMAGE_PACKET, IMAGE_TALLY, IMAGE_WORST)
 BASE, SIZE = 0x300000000, 0x100000
 ENDS, TALLIES, PACKET, RECORDS, STORE = 0x1000, 0x2000, 0x4000, 0x8000, 0x10000
 IMAGE = 0x80000
@@ -342,6 +343,24 @@ def see_worst(call, touched, result):
                    loaded[word], once)
 
 
+def see_image_check(call, touched, result):
+    see_reader(call, touched, result)
+    checked.update(image=(list(call.words), call.len), image_loads=touched.loaded(STORE, call.len))
+
+
+def see_image_worst(call, touched, result):
+    """The image check goes over the words once. Then, where it passes, the rows are gone through:
+    no block is looked at again, and of the front no word but the number of rules and the rows.
+    The check alone, over the same words, has come before."""
+    see_reader(call, touched, result)
+    expect(checked['image'] == (list(call.words), call.len), 'the check was seen over other words')
+    for word, times in touched.loaded(STORE, call.len).items():
+        rows = result[0] == 0 and (word == 1 or HEAD <= word < HEAD + ROW * PLACES)
+        most = checked['image_loads'][word]
+        expect(rows or times <= most, 'it loads word %d %d times, and %d are enough', word, times,
+               most)
+
+
 def see(call, touched, result):
     """Raises a Fault where a call does not touch what it should, or more."""
     if call.op in (LOOKUP, IMAGE_LOOKUP):
@@ -353,6 +372,6 @@ def see(call, touched, result):
     else:
         {LOOKUP_PACKET: see_packet, LOOKUP_TALLY: see_tally, SCAN: see_scan, CHECK: see_check,
          READ: see_reader, RULE_AT: see_reader, DEAD: see_dead, WORST: see_worst,
-         CELLS: see_reader, IMAGE_WORDS: see_reader, IMAGE_CHECK: see_reader, FREEZE: see_freeze,
-         IMAGE_PACKET: see_packet, IMAGE_TALLY: see_tally}.get(call.op, see_edit)(
-             call, touched, result)
+         CELLS: see_reader, IMAGE_WORDS: see_reader, IMAGE_CHECK: see_image_check,
+         IMAGE_WORST: see_image_worst, FREEZE: see_freeze, IMAGE_PACKET: see_packet,
+         IMAGE_TALLY: see_tally}.get(call.op, see_edit)(call, touched, result)

@@ -160,6 +160,31 @@ def winner_and_blocks(rules, values):
     return min(rules, key=lambda rule: rule.number), blocks
 
 
+def deepest_record(rules):
+    """The greatest sum of blocks of any record within the tops, and the least record, compared
+    field by field from field 1, that has it: as worst_record, with the same values tried."""
+    seen = {}
+
+    def deepest(held, field):
+        """The greatest sum from this field on over these rules, and the least values."""
+        if field == len(TOPS):
+            return 0, ()
+        if (held, field) not in seen:
+            tried = {0} | {rules[i].low[field] for i in held} | {
+                rules[i].high[field] + 1 for i in held}
+            own = levels(len({end for i in held for end in ends(rules[i], field)}))
+            best = 0, ()
+            for value in sorted(value for value in tried if value <= TOPS[field]):
+                blocks, rest = deepest(tuple(i for i in held if rules[i].low[field] <= value
+                                             <= rules[i].high[field]), field + 1)
+                if own + blocks > best[0]:
+                    best = own + blocks, (value,) + rest
+            seen[held, field] = best
+        return seen[held, field]
+
+    return deepest(tuple(range(len(rules))), 0)
+
+
 def count_blocks(rules):
     """The blocks of an image: under each location m ends take ceil(m / 8) blocks, these as
     many links above them, and so on until one is left."""
@@ -292,6 +317,12 @@ class Account:
     def image_words(self):
         """(answer, words): 1,024 in front and 16 for each block."""
         return (DONE, 1024 + 16 * count_blocks(self.table()))
+
+    def image_worst(self):
+        """(answer, blocks, six values): the greatest count of blocks, and the least record that
+        reads it."""
+        blocks, record = deepest_record(self.table())
+        return (DONE, blocks) + record
 
     def image_lookup(self, values):
         """As a lookup, over the image of this store: the last number counts blocks."""

@@ -24,7 +24,7 @@ enum { ENDS = 0x1000, TALLIES = 0x2000, PACKET = 0x4000, RECORDS = 0x8000, STORE
        IMAGE = 0x80000, SIZE = 0x100000, PATTERN = 0xA5 };
 enum { FILL, GET, START, START_WITH, INSERT, DELETE, CHECK, READ, RULE_AT, DEAD, WORST, CELLS,
        LOOKUP, LOOKUP_PACKET, LOOKUP_TALLY, SCAN, PREFIX, CLEAR, DIFFERENCE, IMAGE_WORDS, FREEZE,
-       IMAGE_CHECK, IMAGE_LOOKUP, IMAGE_PACKET, IMAGE_TALLY };
+       IMAGE_CHECK, IMAGE_LOOKUP, IMAGE_PACKET, IMAGE_TALLY, IMAGE_WORST };
 
 extern char __executable_start, end;
 
@@ -85,6 +85,7 @@ static void look(uint32_t op) {
   if (op == CELLS) { CALL(reamstork_count, reamstork_cells(words, len)); }
   if (op == IMAGE_WORDS) { CALL(reamstork_size, reamstork_image_words(words, len)); }
   if (op == IMAGE_CHECK) { CALL(uint32_t, reamstork_image_check(words, len)); }
+  if (op == IMAGE_WORST) { CALL(reamstork_most, reamstork_image_worst(words, len)); }
 }
 
 /* Into as many words as are said, all full of the pattern. */
@@ -153,7 +154,7 @@ static void run(uint32_t op) {
   if (op == FILL) fill();
   else if (op == GET) n = next(), give(words, n);
   else if (op <= DELETE) edit(op);
-  else if (op <= CELLS || op == IMAGE_WORDS || op == IMAGE_CHECK) look(op);
+  else if (op <= CELLS || op == IMAGE_WORDS || op == IMAGE_CHECK || op == IMAGE_WORST) look(op);
   else if (op == LOOKUP || op == IMAGE_LOOKUP) lookup(op);
   else if (op <= LOOKUP_TALLY || op == IMAGE_PACKET || op == IMAGE_TALLY) lookup_packet(op);
   else if (op == FREEZE) freeze();

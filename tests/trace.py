@@ -26,8 +26,10 @@ records and lists. Of each call is seen (loads.py):
   nothing else that could be lent.
 - Dead and worst go over the cells once for the check. Then dead goes at most once through the
   tree, and worst once.
-- Check, read, rule_at, dead, worst, cells, image_words and image_check write nothing; nor does a
-  start or an edit that is refused.
+- The worst of an image goes over its words once for the image check. Then it looks at the rows
+  alone, and at no block again.
+- Check, read, rule_at, dead, worst, cells, image_words, image_check and image_worst write nothing;
+  nor does a start or an edit that is refused.
 - No call touches a word behind its store or in front of it, nor any memory but what
   it was lent, its stack, and for loads the program's constants.
 
@@ -44,9 +46,9 @@ from collections import Counter
 from calls import ARCHIVE, Program, Script, cannot
 from image import BLOCK, DOWN, KEYS, image
 from loads import (BEGIN, CELL, CELLS, CHECK, CLEAR, DEAD, DELETE, DIFFERENCE, FREEZE, FRONT,
-                   IMAGE_CHECK, IMAGE_LOOKUP, IMAGE_PACKET, IMAGE_TALLY, IMAGE_WORDS, INSERT,
-                   LOOKUP, LOOKUP_PACKET, LOOKUP_TALLY, PLACES, PREFIX, READ, RULE_AT, SCAN, START,
-                   START_WITH, WORST, Fault, Touched, see)
+                   IMAGE_CHECK, IMAGE_LOOKUP, IMAGE_PACKET, IMAGE_TALLY, IMAGE_WORDS, IMAGE_WORST,
+                   INSERT, LOOKUP, LOOKUP_PACKET, LOOKUP_TALLY, PLACES, PREFIX, READ, RULE_AT, SCAN,
+                   START, START_WITH, WORST, Fault, Touched, see)
 from reference import DEFAULT, LEAST_CELLS, TOPS, Rule, default_rule
 from tables import World, packet_of, random_packet, values_above, values_near
 
@@ -63,7 +65,8 @@ CALLS = {
     FREEZE: ('freeze', {0, 8, 9}), IMAGE_CHECK: ('image_check', {0, 9}),
     IMAGE_LOOKUP: ('image_lookup', {0, 9, 11}),
     IMAGE_PACKET: ('image_lookup_packet', {0, 7, 9, 14}),
-    IMAGE_TALLY: ('image_lookup_packet_tally', {0, 7, 9, 13, 14})}
+    IMAGE_TALLY: ('image_lookup_packet_tally', {0, 7, 9, 13, 14}),
+    IMAGE_WORST: ('image_worst', {0, 9})}
 BEHIND = 0xA5A5A5A5
 FULL = (0,) * 6, TOPS
 
@@ -249,6 +252,7 @@ def over_image(script, rng, c, rules, words):
         for length in (len(words), len(words) - 1, FRONT, 0):
             script.fill(words, length)
             script.call(IMAGE_CHECK)
+            script.call(IMAGE_WORST)
     blocks = (len(words) - FRONT) // BLOCK
     for _ in range(3):
         bad = list(words)
@@ -262,6 +266,7 @@ def over_image(script, rng, c, rules, words):
         lookups(script, rng, rules, 3, image=True)
         if c <= 300:
             script.call(IMAGE_CHECK)
+            script.call(IMAGE_WORST)
 
 
 def over_rings(script, rng, words):

@@ -72,21 +72,21 @@ over-answers image p =
       nine = image-undecided-9 ipv4 ipv4-shaped image (valuesIn p);
     }
 
-over-header : (image bytes : List ℕ) → ByHeader (lookupOver image) bytes (imagePacket image bytes)
+pub over-header : (image bytes : List ℕ) → ByHeader (lookupOver image) bytes (imagePacket image bytes)
 over-header image bytes = record { unread = λ h e n. sym (no-values image bytes h (sym e) n); read = λ p e. sym (by-values image bytes p (sym e)) }
 
 over-zeros : (image bytes : List ℕ) → imagePacket image bytes .answer ≢ 0 → OnlyAnswer (imagePacket image bytes)
 over-zeros image bytes = packet-zeros (over-header image bytes) (λ p. zeros (over-answers image p))
 
 -- THE IMAGE OF A STORE THAT PASSES, with any words behind it
-tops-small : Words (ipv4 .tops)
+pub tops-small : Words (ipv4 .tops)
 tops-small = (omega arith, (omega arith, (omega arith, (omega arith, (omega arith, (omega arith, tt))))))
 
 module _ (ws : List ℕ) (h : Passes ipv4 ws) (rest : List ℕ) where
   abbrev W : List ℕ
   W = imageOf ws ++ rest
 
-  over-is : (vs : List ℕ) → packetRight ipv4 vs ≡ true → imageLookup ipv4 W vs ≡ frozenOf ipv4 (tableOf ipv4 ws) vs
+  pub over-is : (vs : List ℕ) → packetRight ipv4 vs ≡ true → imageLookup ipv4 W vs ≡ frozenOf ipv4 (tableOf ipv4 ws) vs
   over-is = image-gives ipv4 ipv4-shaped tops-small (tableOf ipv4 ws) (right ipv4 ipv4-shaped ws h) rest (omega (arith, fits ipv4 ipv4-shaped ws h, room ipv4 ipv4-shaped ws h .most))
 
   same-values : (p : Packet) → SameRule (lookupOver W p) (lookup ws p)

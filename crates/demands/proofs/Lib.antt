@@ -28,4 +28,5 @@ pub mod Stacked
 pub mod Strayed
 pub mod Imaged
 pub mod Frozen
+pub mod Deepest
 pub mod Shown

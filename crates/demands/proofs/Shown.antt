@@ -12,6 +12,7 @@ use Rattle.demands.specs.Portless.{Portless}
 use Rattle.demands.specs.Dead.{Dead}
 use Rattle.demands.specs.Worst.{Worst}
 use Rattle.demands.specs.Frozen.{Frozen}
+use Rattle.demands.specs.Deepest.{Deepest}
 use Rattle.demands.proofs.Demand1.{demand1}
 use Rattle.demands.proofs.Demand2.{demand2}
 use Rattle.demands.proofs.Demand3.{demand3}
@@ -23,6 +24,7 @@ use Rattle.demands.proofs.Portless.{portless}
 use Rattle.demands.proofs.Dead.{dead}
 use Rattle.demands.proofs.Worst.{worst}
 use Rattle.demands.proofs.Frozen.{frozen}
+use Rattle.demands.proofs.Deepest.{deepest}
 
-pub shown : Demand1 × Demand2 × Demand3 × Check ipv4 × StarredCalls × Tallied × Scan × Portless × Dead × Worst × Frozen
-shown = (demand1, demand2, demand3, check ipv4 ipv4-shaped, bench, tallied, scanned, portless, dead, worst, frozen)
+pub shown : Demand1 × Demand2 × Demand3 × Check ipv4 × StarredCalls × Tallied × Scan × Portless × Dead × Worst × Frozen × Deepest
+shown = (demand1, demand2, demand3, check ipv4 ipv4-shaped, bench, tallied, scanned, portless, dead, worst, frozen, deepest)

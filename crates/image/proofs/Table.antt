@@ -40,7 +40,7 @@ blank a = 0
 
 -- A TREE WITH OTHER NAMES has the same ends, so the same blocks are read
 module _ {A : Type 0} (h : A → ℕ) where
-  tree-rename : {P R : Type 0} (g : List R → A) (fs : List (Field P R)) (rs : List R) → rename h (tree g fs rs) ≡ tree (λ l. h (g l)) fs rs
+  pub tree-rename : {P R : Type 0} (g : List R → A) (fs : List (Field P R)) (rs : List R) → rename h (tree g fs rs) ≡ tree (λ l. h (g l)) fs rs
   tree-rename g [] rs = refl
   tree-rename g (f ∷ fs) rs = chain-rename h (λ e. tree g fs (keep (covers f e) rs)) (ends f rs) ∙ ap (λ u. chain u (ends f rs)) (fun-ext (λ e. tree-rename g fs (keep (covers f e) rs)))
 
@@ -56,7 +56,7 @@ module _ (h : ℕ → ℕ) where
   width-rename stop = refl
   width-rename (loc e u t) = rw (width-rename t)
 
-  height-rename : (t : Tree ℕ) → height (rename h t) ≡ height t
+  pub height-rename : (t : Tree ℕ) → height (rename h t) ≡ height t
   height-rename (names a) = refl
   height-rename stop = refl
   height-rename (loc e u t) = rw (width-rename t)

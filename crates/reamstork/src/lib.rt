@@ -13,6 +13,7 @@ ghost use Rattle.live.specs.Live.{deadSays};
 ghost use Rattle.worst.specs.Worst.{worstSays};
 ghost use Rattle.frozen.specs.Frozen.{totalSays, totalGives, freezeSays, freezeWords, imageSays};
 ghost use Rattle.image.specs.Image.{imageLookup, imagePacket, imageTally, imageTallies};
+ghost use Rattle.depths.specs.Depths.{imageWorst};
 ghost use Rattle.reamstork.specs.Face.{ruleOf, ruleRead, checkSays};
 use audit::Count;
 use freeze::Size;
@@ -264,6 +265,14 @@ pub extern "C" fn reamstork_image_check(image: &[u32]) -> u32
     ensures { λ r. ⌜ r ≡ imageSays ipv4 (now (image .entry)) ⌝ }
 {
     if inspect::check(image) { 0 } else { 9 }
+}
+
+// Says the most blocks that any values read over an image, and the least record that reads so many.
+#[no_mangle]
+pub extern "C" fn reamstork_image_worst(image: &[u32]) -> Most
+    ensures { λ r. ⌜ r ≡ imageWorst ipv4 (now (image .entry)) ⌝ }
+{
+    depths::worst(image)
 }
 
 // Looks six values up in an image.
