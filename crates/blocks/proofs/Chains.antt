@@ -1,21 +1,21 @@
 -- The blocks of a chain: its ends, what is below each of them, and the levels above; and how they are written, key by key.
 -- Assumes nothing.
 use mathlib.Core.Path.{_≡_, refl, sym, ap, _∙_, fun-ext}
-use mathlib.Core.Bool.{Bool, true, false, cond}
+use mathlib.Core.Bool.{cond}
 use mathlib.Core.List.{List, [], _∷_, _++_, append-assoc}
 use Prim.Native.Nat.{ℕ, zero, suc, _+_, _-_, _*_, _/_, _%_, _≤_, _<_}
 use native.Mathlib.Omega.{arith}
 use native.Mathlib.Numerals.{add-one}
-use lib.Dec.{ltb, leb, eqb, leb·suc-suc}
-use lib.ListN.{length, getD, set, take, drop, length-drop, length-set, length-take, length-append, take-append-drop}
-use lib.Seq.{getD-drop, drop-drop, drop-set-add, take-set-le, take-take, take-suc, take-length, drop-append-le, take-append-seam, take-all, take-add, drop-at, length-take-le, drop-append-seam}
-use borrow.Author.Tests.{ltb-true, ltb-false, lt-ltb, le-ltb, eq-eqb, ne-eqb, eqb-true, eqb-false}
+use lib.Dec.{ltb, leb·suc-suc}
+use lib.ListN.{length, getD, set, take, drop, length-set, take-append-drop}
+use lib.Seq.{drop-drop, drop-set-add, take-set-le, take-take, take-suc, take-append-seam, take-all, take-add, drop-at, length-take-le, drop-append-seam}
+use borrow.Author.Tests.{ltb-true, ltb-false, lt-ltb, le-ltb}
 use Rattle.model.specs.Rules.{Tree, names, stop, loc, chain}
 use Rattle.model.proofs.Tests.{by-test}
 use Rattle.cells.specs.Text.{width}
 use Rattle.blocks.specs.Blocks.{topEnd, downMark, depth, leastFrom, parts, blocksUp, eachOf, level, linksTo, lay, ownBlocks, underBlocks, blocks, entry, endAtPlace, linkAtPlace, chainBlocks, belowBlocks, treeBlocks, blocksText}
 use Rattle.blocks.specs.Sums.{blocksFor}
-use Rattle.blocks.specs.Written.{endPlace, linkPlace, entered, Level, Under, Laid, Raised, Written}
+use Rattle.blocks.specs.Written.{endPlace, linkPlace, entered, Level, Raised, Written}
 use Rattle.blocks.proofs.Levels.{level-length, level-past}
 use Rattle.blocks.proofs.Words.{belows-length}
 use Rattle.blocks.proofs.Writing.{size-parts, level-enter}

@@ -1,19 +1,14 @@
 -- The words of the blocks of a tree: how many there are, and what stands behind them.
 -- Assumes nothing.
-use mathlib.Core.Path.{_≡_, refl, sym, ap, _∙_}
-use mathlib.Core.Bool.{Bool, true, false, cond}
-use mathlib.Core.List.{List, [], _∷_}
-use mathlib.Core.Option.{some}
-use Prim.Native.Nat.{ℕ, zero, suc, _+_, _-_, _*_, _/_, _≤_, _<_}
+use mathlib.Core.Path.{_≡_, refl}
+use mathlib.Core.List.{List, []}
+use Prim.Native.Nat.{ℕ, _+_, _-_, _*_, _≤_}
 use native.Mathlib.Omega.{arith}
-use lib.Dec.{ltb}
-use lib.ListN.{length, getD, drop, length-drop}
+use lib.ListN.{length, drop}
 use lib.Seq.{drop-drop}
-use borrow.Author.Tests.{ltb-true, ltb-false, le-ltb}
-use Rattle.model.specs.Rules.{Tree, names, stop, loc, found}
+use Rattle.model.specs.Rules.{Tree, names, stop, loc}
 use Rattle.cells.specs.Text.{width}
-use Rattle.cells.specs.Planted.{Deep}
-use Rattle.blocks.specs.Blocks.{topEnd, downMark, pow8, depth, levels, blocksUp, lay, ownBlocks, underBlocks, blocks, entry, endAtPlace, linkAtPlace, chainBlocks, belowBlocks, treeBlocks, blocksText, height, readsBelow, blockReads}
+use Rattle.blocks.specs.Blocks.{depth, ownBlocks, underBlocks, blocks, endAtPlace, linkAtPlace, chainBlocks, belowBlocks, blocksText}
 use Rattle.blocks.proofs.Levels.{lay-past, lay-length}
 
 -- THE WORDS: what stands behind a chain's blocks, and behind all that is below it; and how many there are

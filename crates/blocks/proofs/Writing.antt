@@ -3,16 +3,15 @@
 use mathlib.Core.Path.{_≡_, refl, sym, ap, _∙_}
 use mathlib.Core.Logic.{_⊎_, inl, inr}
 use mathlib.Core.Bool.{Bool, true, false, cond}
-use mathlib.Core.List.{List, [], _∷_}
+use mathlib.Core.List.{List, []}
 use Prim.Native.Nat.{ℕ, zero, suc, _+_, _-_, _*_, _/_, _%_, _≤_, _<_}
 use native.Mathlib.Omega.{arith}
-use lib.Dec.{ltb, leb, eqb}
+use lib.Dec.{ltb, eqb}
 use lib.ListN.{length, getD, set, take, drop, length-drop, length-set, length-take}
-use lib.Seq.{getD-drop, getD-take, getD-set-same, getD-set-other, ext-getD, drop-drop, take-take}
-use borrow.Author.Tests.{ltb-true, ltb-false, leb-true, leb-false, eqb-true, eqb-false, lt-ltb, le-ltb}
-use Rattle.model.proofs.Tests.{by-test}
+use lib.Seq.{getD-drop, getD-take, getD-set-same, getD-set-other, ext-getD, take-take}
+use borrow.Author.Tests.{ltb-true, ltb-false, eqb-true, eqb-false}
 use Rattle.blocks.specs.Blocks.{topEnd, depth, parts, blocksUp, level, linksTo, lay}
-use Rattle.blocks.specs.Written.{endPlace, linkPlace, entered, padded, Level, Under, Links, Laid, Raised}
+use Rattle.blocks.specs.Written.{endPlace, linkPlace, entered, Level, Under, Links, Raised}
 use Rattle.blocks.proofs.Levels.{few-blocks, depth-low, depth-step, level-length, level-past, end-word, link-word}
 
 -- the first k places of a level are written, and no word outside the level is changed

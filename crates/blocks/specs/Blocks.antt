@@ -4,7 +4,6 @@ use mathlib.Core.Bool.{cond}
 use mathlib.Core.List.{List, [], _∷_}
 use Prim.Native.Nat.{ℕ, zero, suc, _+_, _*_, _/_}
 use lib.Dec.{ltb, leb}
-use Rattle.model.specs.Lists.{sum}
 use Rattle.model.specs.Rules.{Tree, names, stop, loc}
 use Rattle.cells.specs.Text.{width}
 

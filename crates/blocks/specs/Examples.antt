@@ -1,7 +1,7 @@
 -- Worked examples of the definitions: a chain of one block, and one of 9 ends, which takes two levels. Each holds by computation.
 -- Assumes nothing.
 use mathlib.Core.Path.{_≡_, refl}
-use mathlib.Core.List.{List, [], _∷_}
+use mathlib.Core.List.{[], _∷_}
 use Prim.Native.Nat.{ℕ}
 use lib.ListN.{take, drop}
 use Rattle.model.specs.Rules.{Tree, names, stop, loc}

@@ -3,12 +3,11 @@
 use mathlib.Core.Path.{_≡_}
 use mathlib.Core.Bool.{cond}
 use mathlib.Core.List.{List}
-use Prim.Native.Nat.{ℕ, _+_, _-_, _*_, _/_, _%_, _≤_, _<_}
+use Prim.Native.Nat.{ℕ, _+_, _*_, _/_, _%_, _≤_}
 use lib.Dec.{ltb}
 use lib.ListN.{length, getD, set, take, drop}
-use Rattle.model.specs.Lists.{In}
 use Rattle.model.specs.Rules.{Tree, names, stop, loc}
-use Rattle.blocks.specs.Blocks.{topEnd, depth, parts, blocksUp, level, lay, linksTo, blocks, treeBlocks}
+use Rattle.blocks.specs.Blocks.{topEnd, depth, parts, level, lay, linksTo, blocks, treeBlocks}
 
 -- where the end of place j of a level that stands from block b on is, and its link
 abbrev pub endPlace : ℕ → ℕ → ℕ
@@ -53,11 +52,7 @@ pub record Roomy (w : List ℕ) (a : ℕ) (t : Tree ℕ) : Type 0 where
   pub fits : 16 * (a + blocks t) ≤ length w
   pub few : a + blocks t ≤ 16777216
 
--- the places fit behind a mark
-abbrev pub Small : List ℕ → Type 0
-Small ps = (p : ℕ) → In p ps → p ≤ 65535
-
--- and so do all places that a tree names
+-- all places that a tree names fit behind a mark
 unfoldable pub Named : Tree ℕ → Type 0
 Named (names x) = x ≤ 65535
 Named stop = Unit {0}

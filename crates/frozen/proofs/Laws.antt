@@ -3,24 +3,23 @@
 use mathlib.Core.Path.{_≡_, refl, sym, ap, ap₂, _∙_}
 use mathlib.Core.Bool.{true, false}
 use mathlib.Core.List.{List, [], _∷_, _++_, append-assoc}
-use Prim.Native.Nat.{ℕ, suc, _+_, _-_, _*_, _≤_, _<_}
+use Prim.Native.Nat.{ℕ, _+_, _-_, _*_, _≤_, _<_}
 use native.Mathlib.Omega.{arith}
-use native.Mathlib.Nat.{mul-le-mul-left, mul-le-mul-right}
-use lib.ListN.{length, getD, take, drop, length-append, length-drop}
-use lib.Seq.{take-add, drop-at, take-at, drop-append-le, drop-drop, length-take-le}
-use borrow.Author.Tests.{le-leb, lt-leb, leb-true}
-use Rattle.model.specs.Lists.{In}
+use native.Mathlib.Nat.{mul-le-mul-right}
+use lib.ListN.{length, getD, take, drop, length-append}
+use lib.Seq.{take-add}
+use borrow.Author.Tests.{le-leb, lt-leb}
 use Rattle.model.proofs.Tests.{by-test}
-use Rattle.model.specs.Rules.{Tree, names, stop, loc, cells}
+use Rattle.model.specs.Rules.{Tree, names, stop, loc}
 use Rattle.model.specs.Table.{Kind, Shaped, Table, rowWords, front, within, cellsOf}
 use Rattle.rows.specs.Rows.{fieldsAt, treeAt}
-use Rattle.table.specs.Rows.{rowsText, tableIn, places}
+use Rattle.table.specs.Rows.{rowsText, places}
 use Rattle.table.proofs.Edits.{rows-long as rows-are-long}
 use Rattle.layout.specs.Named.{stored}
-use Rattle.layout.specs.Store.{headText, cellsIn, rowsOf, partOf, tableOf, passes}
+use Rattle.layout.specs.Store.{headText, cellsIn, tableOf, passes}
 use Rattle.layout.proofs.Bridge.{stored-cells}
 use Rattle.layout.proofs.Parts.{head-length, head-of, part-slice}
-use Rattle.layout.proofs.Sound.{Sound, sound, Roomy, count-is}
+use Rattle.layout.proofs.Sound.{sound, Roomy, count-is}
 use Rattle.layout.proofs.Passed.{sound-within, sound-most, sound-room}
 use Rattle.layout.proofs.Words.{in-places}
 use Rattle.search.specs.Links.{treeIn}

@@ -1,19 +1,19 @@
 -- What passing the image check says, part by part, and that the parts make it; and one law for each test of the code.
 -- Assumes nothing.
-use mathlib.Core.Path.{_≡_, refl, sym, ap, ap₂, _∙_}
-use mathlib.Core.Bool.{Bool, true, false, not, _&&_}
-use mathlib.Core.List.{List, [], _∷_, _++_, append-assoc}
-use Prim.Native.Nat.{ℕ, suc, _+_, _-_, _*_, _≤_, _<_}
+use mathlib.Core.Path.{_≡_, sym, ap, ap₂, _∙_}
+use mathlib.Core.Bool.{Bool, true, false, not}
+use mathlib.Core.List.{List, [], _∷_, _++_}
+use Prim.Native.Nat.{ℕ, suc, _+_, _-_, _≤_, _<_}
 use native.Mathlib.Omega.{arith}
 use native.Mathlib.Nat.{mul-le-mul-right}
 use lib.Dec.{leb}
-use lib.ListN.{length, getD, take, drop, replicate, length-take, length-drop, length-append, take-append-drop}
-use lib.Seq.{getD-drop, getD-take, take-all, take-add, drop-drop, drop-cons, drop-at, take-at, length-take-le}
-use borrow.Author.Tests.{leb-true, le-leb, not-true, not-false}
+use lib.ListN.{length, getD, take, drop, replicate, length-take, length-drop, take-append-drop}
+use lib.Seq.{getD-take, take-all, drop-drop, drop-cons, length-take-le}
+use borrow.Author.Tests.{leb-true, le-leb}
 use Rattle.model.specs.Lists.{same}
 use Rattle.model.specs.Rules.{Tree, cells}
-use Rattle.model.specs.Table.{Kind, Shaped, Table, rowWords, front, within, risingFrom, allRight, cellsOf}
-use Rattle.model.proofs.Tests.{by-test, never, and-left, and-right, and-both, same-test}
+use Rattle.model.specs.Table.{Kind, Shaped, rowWords, front, within, cellsOf}
+use Rattle.model.proofs.Tests.{by-test, and-left, and-right, and-both, same-test}
 use Rattle.model.proofs.UpTo.{same-true, true-same}
 use Rattle.rows.specs.Rows.{treeAt}
 use Rattle.table.specs.Rows.{rowsText, places, Tells, Zeros}
@@ -24,9 +24,8 @@ use Rattle.layout.specs.Store.{headText, rowsOf, tableOf}
 use Rattle.layout.specs.Inner.{tableStands}
 use Rattle.layout.proofs.Bridge.{stored-cells}
 use Rattle.layout.proofs.Parts.{first-fails, second-fails, third-says, head-length, split-equal, head-of, of-head, rows-slice}
-use Rattle.layout.proofs.Passed.{rows-cells}
 use Rattle.layout.proofs.Sound.{count-is, zeros-are, are-zeros}
-use Rattle.blocks.specs.Blocks.{blocks, blocksText}
+use Rattle.blocks.specs.Blocks.{blocksText}
 use Rattle.frozen.specs.Frozen.{imageSize, imageText, imagePasses}
 use Rattle.frozen.proofs.Laws.{image-size, few-blocks}
 use Rattle.inspect.specs.Body.{treeOfRows, imageBody}

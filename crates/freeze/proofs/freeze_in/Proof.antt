@@ -1,11 +1,10 @@
 -- `freeze::freeze_in` meets its contract: what the total says, 8 where the slice is shorter, and else the image is written.
 -- Assumes nothing.
 use borrow.Author.Needs.{needs}
-use mathlib.Core.Path.{_≡_, sym, _∙_}
+use mathlib.Core.Path.{_≡_}
 use mathlib.Core.Bool.{true}
 use mathlib.Core.List.{List}
-use Prim.Native.Nat.{ℕ, _≤_}
-use native.Mathlib.Omega.{arith}
+use Prim.Native.Nat.{ℕ}
 use Rattle.model.specs.Table.{Kind, Shaped}
 use Rattle.table.specs.Rows.{kindOf}
 use Rattle.layout.specs.Store.{passes}

@@ -1,9 +1,9 @@
 -- `freeze::put_front` meets its contract. The invariant: the words passed are written. Assumes nothing.
-use mathlib.Core.Path.{_≡_, refl, sym, _∙_}
-use Prim.Native.Nat.{_-_, _+_}
+use mathlib.Core.Path.{refl}
+use Prim.Native.Nat.{_-_}
 use native.Mathlib.Omega.{arith}
 use borrow.Author.Needs.{needs}
-use lib.ListN.{length, length-set}
+use lib.ListN.{length-set}
 use Rattle.freeze.proofs.Front.{Fronted, fronted-start, fronted-on, fronted-done}
 use Rattle.freeze.proofs.put_front.Statement.{statement}
 use Rattle.freeze.proofs.put_front.Tie as tie

@@ -12,7 +12,7 @@ use Rattle.table.specs.Rows.{kindOf}
 use Rattle.layout.specs.Store.{cellsIn, passes}
 use Rattle.layout.proofs.Parts.{part-here}
 use Rattle.layout.proofs.Sound.{Roomy}
-use Rattle.frozen.proofs.Laws.{room, its-blocks, tree-is, says-total, total-small, total-9}
+use Rattle.frozen.proofs.Laws.{room, says-total, total-small, total-9}
 use Rattle.freeze.proofs.total_in.Statement.{statement}
 use Rattle.freeze.proofs.total_in.Tie as tie
 

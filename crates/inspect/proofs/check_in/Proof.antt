@@ -4,7 +4,6 @@ use borrow.Author.Needs.{needs}
 use mathlib.Core.Path.{_≡_}
 use mathlib.Core.List.{List}
 use Prim.Native.Nat.{ℕ, _+_}
-use native.Mathlib.Omega.{arith}
 use Rattle.model.specs.Table.{Kind, Shaped, rowWords}
 use Rattle.table.specs.Rows.{kindOf}
 use Rattle.inspect.proofs.Laws.{short-image, long-image, some-cells, many-rules, other-mark, some-first, some-second, some-zeros, by-body}

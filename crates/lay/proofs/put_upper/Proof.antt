@@ -1,6 +1,5 @@
 -- `lay::put_upper` meets its contract. The invariant: the lowest level that stands is right, and what is to be laid above it is the same. Assumes nothing.
-use mathlib.Core.Path.{_≡_, refl, sym, _∙_}
-use Prim.Native.Nat.{_-_, _*_, _+_, _≤_}
+use Prim.Native.Nat.{_-_}
 use native.Mathlib.Omega.{arith}
 use borrow.Author.Needs.{needs}
 use Rattle.blocks.proofs.Writing.{Climbs, climbs-start, climbs-fits, climbs-on, climbs-done}
