@@ -18,7 +18,7 @@ else
 $(error MACHINE is '$(MACHINE)': there are archives for x86_64 and for aarch64)
 endif
 
-.PHONY: help run lib install uninstall example test soak bench-speed bench-peers bench-stack bench-place bench-cells mutants must-fail edits-list clean kit tools capture
+.PHONY: help run lib install uninstall example test soak bench-speed bench-before bench-growth bench-peers bench-stack bench-place bench-cells mutants must-fail edits-list clean kit tools capture
 # Two provers over one target/ would be in each other's way.
 .NOTPARALLEL:
 .DELETE_ON_ERROR:
@@ -42,6 +42,8 @@ help:
 	@echo 'make test                      prove every crate, try every must-fail edit, run every test'
 	@echo 'make soak [SECONDS_LONG=3600]  the independent second program for as long as you like'
 	@echo 'make bench-speed, bench-stack  figures of docs/TIMING.md'
+	@echo 'make bench-growth              how the calls grow from 10 to 512 rules'
+	@echo 'make bench-before EARLIER=old.a    small stores beside an earlier archive of the library'
 	@echo 'make bench-peers               a lookup beside DPDK'"'"'s rte_acl'
 	@echo 'make bench-place               what finding a new rule'"'"'s place costs, in instructions'
 	@echo 'make bench-cells               how many cells tables of several shapes take'
@@ -97,6 +99,13 @@ soak: $(X86) tools
 
 bench-speed: $(X86) tools
 	@sh plain/speed.sh $(X86)
+
+bench-growth: $(X86) tools
+	@sh plain/growth.sh $(X86)
+
+bench-before: export EARLIER := $(EARLIER)
+bench-before: $(X86) tools
+	@sh plain/before.sh $(X86) "$$EARLIER"
 
 bench-peers: $(X86) tools
 	@tests/tools peers

@@ -76,6 +76,8 @@ static void host_or_port(struct rule *r, uint32_t i)
 
 /*
  * All overlap with all in the first fields, and no two ends are the same.
+ * For a few hundred rules the protocol has too few values: before that the
+ * cells are too few.
  * Where ports are among these fields, packets with ports alone are asked
  * for, by all rules alike.
  */
@@ -84,20 +86,22 @@ static int wide;
 static void overlap(struct rule *r, uint32_t i)
 {
 	for (int f = 0; f < wide; f++)
-		set(r, f, 1 + i, 100 + i);
+		set(r, f, 1 + i, (f == REAMSTORK_PROTOCOL ? 100 : 1000) + i);
 	if (wide > REAMSTORK_DESTINATION_PORT)
 		set(r, REAMSTORK_PORTLESS, 0, 0);
 }
 
+/* The numbers of rules for which the cells are printed. */
+static const uint32_t columns[] = { 1, 2, 4, 8, 9, 10, 16, 32, 64, 128, 256, REAMSTORK_RULES_MAX };
+
+/* Each table is the one before it and more rules. */
 static void row(const char *name, void (*rule)(struct rule *, uint32_t))
 {
-	static const uint32_t columns[] = { 1, 2, 4, 8, 9, 10, 16, 32, 64 };
+	uint32_t answer = reamstork_start(store, len, REAMSTORK_CELLS_MAX), i = 0;
 
 	printf("%-40s", name);
 	for (size_t k = 0; k < sizeof columns / sizeof columns[0]; k++) {
-		uint32_t answer = reamstork_start(store, len, REAMSTORK_CELLS_MAX);
-
-		for (uint32_t i = 0; i < columns[k] && answer == REAMSTORK_DONE; i++) {
+		for (; i < columns[k] && answer == REAMSTORK_DONE; i++) {
 			struct rule r = { { 0 }, { 0 } };
 
 			for (int f = 0; f < REAMSTORK_FIELDS; f++)
@@ -117,7 +121,10 @@ int main(void)
 {
 	char name[64];
 
-	printf("%-40s%7d%7d%7d%7d%7d%7d%7d%7d%7d\n", "rules", 1, 2, 4, 8, 9, 10, 16, 32, 64);
+	printf("%-40s", "rules");
+	for (size_t k = 0; k < sizeof columns / sizeof columns[0]; k++)
+		printf("%7" PRIu32, columns[k]);
+	printf("\n");
 	row("one host each", host);
 	row("one host and UDP port each", host_and_port);
 	row("the same, from one network", host_port_from);

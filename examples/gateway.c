@@ -66,6 +66,12 @@ static const struct {
 	{ 24, { 0x45,0,0,28, 0,10,0x40,0, 64,17,0,0, 10,0,9,7, 10,0,0,5, 0x9c,0x40,0x13,0x8c } },	/* cut short: 24 bytes of 28 */
 };
 
+/*
+ * A large store: up to 512 rules.  A gateway that finds a small one of an
+ * earlier version, 64 rules in battery-backed memory, carries its table here
+ * by reamstork_carry(kept, kept_len, store, store_len, 1920) instead of a
+ * start, and edits on.
+ */
 static uint32_t store[REAMSTORK_WORDS(1920)];
 static const size_t store_len = sizeof store / sizeof store[0];
 static reamstork_tallies tallies;

@@ -48,20 +48,22 @@
  *
  *  - `words` points to at least `len` words of 32 bits, aligned as
  *    uint32_t is; so does `image` to at least `image_len` words, or `len`
- *    where it is the only one; `packet` points to at least `packet_len`
- *    bytes; `low` and `high` point to six words each; `tallies` points to
- *    a reamstork_tallies; `records` points to at least `count` of
- *    reamstork_record.  No pointer is null, not even with a length or
- *    count of 0.
- *  - A call that writes its words (start, start_with, insert, delete) has
- *    them to itself while it runs: no other thread, interrupt or device
- *    reads or writes them, and `low` and `high` do not lie within them.
+ *    where it is the only one, and `from` to at least `from_len` words;
+ *    `packet` points to at least `packet_len` bytes; `low` and `high` point
+ *    to six words each; `tallies` points to a reamstork_tallies; `records`
+ *    points to at least `count` of reamstork_record.  No pointer is null,
+ *    not even with a length or count of 0.
+ *  - A call that writes its words (start, start_with, carry, insert,
+ *    delete) has them to itself while it runs: no other thread, interrupt
+ *    or device reads or writes them, and neither `low` and `high` nor any
+ *    word of `from` lie within them.
  *    freeze has its image to itself in the same way, and it does not
  *    overlap the words.  A call that is lent tallies has these to itself
  *    too, and they lie neither within its words nor within its packet.
  *  - While a call that only reads its words runs, nobody writes them, its
  *    packet or its records, and the words and the packet do not overlap.
- *    The words of an image are meant as well.
+ *    The words of an image are meant as well, and `from`, which carry only
+ *    reads.
  *    Any number of such calls may run at once over the same words; those
  *    that count have a tally record each.
  *
@@ -88,9 +90,10 @@
  * range from 0 to the top is full: it holds every value.
  *
  * A rule has a number, 0 to 65,534, and an action, any 32-bit number,
- * whose meaning is the caller's.  A table has at most 64 rules, no two
- * with the same number, and besides them the default rule: number 65,535,
- * full ranges, and the action given at the start, 0 where none is named.
+ * whose meaning is the caller's.  A table has at most 512 rules, in a small
+ * store 64, no two with the same number, and besides them the default rule:
+ * number 65,535, full ranges, and the action given at the start, 0 where
+ * none is named.
  *
  * A packet is decided by the rule with the least number among those whose
  * six ranges all hold its values.  The default always holds them.
@@ -126,6 +129,28 @@
  *         [REAMSTORK_PORTLESS] = REAMSTORK_TOP_PORTLESS, ... };
  *
  *
+ * TWO KINDS OF STORE
+ *
+ * A large store takes 512 rules besides the default, and of c cells it is
+ * REAMSTORK_WORDS(c) words.  Every start makes one.  A small store takes 64,
+ * and of c cells it is REAMSTORK_SMALL_WORDS(c) words.  These are the stores
+ * of the versions 2.0 to 4.2, such as stand in battery-backed memory, and no
+ * call makes another.
+ *
+ *                         large                      small
+ *     rules at most       REAMSTORK_RULES_MAX, 512   REAMSTORK_SMALL_RULES_MAX, 64
+ *     words of a store    8,192 + 8 c                1,024 + 8 c
+ *     words of an image   8,192 + 16 for each block  1,024 + 16 for each block
+ *     word 2 of either    REAMSTORK_LARGE, 4         REAMSTORK_SMALL, 0
+ *
+ * Every call that is lent a store or an image takes both kinds, and sees by
+ * word 2 which it has.  A small store is checked, read, edited and frozen in
+ * its own words, and keeps its limit and its size; reamstork_carry carries
+ * its table into a large one.  The same rules take the same cells and the
+ * same blocks in both, every packet is decided alike, and the counts of
+ * reads are the same.
+ *
+ *
  * CELLS AND READS
  *
  * The ends of a rule in a field are its high end and, if its low end is
@@ -143,23 +168,24 @@
  *
  * A lookup touches the cells that it counts and six words besides; this
  * is measured, not proved.  check goes over all cells of the store, and so
- * do insert, delete, read, rule_at, cells, dead, worst, image_words and
- * freeze, which run it first; insert and delete then build the tree anew,
- * and dead, worst, image_words and freeze go through it.
+ * do insert, delete, read, rule_at, cells, dead, worst, image_words, freeze
+ * and carry, which run it first; insert and delete then build the tree anew,
+ * carry lays it in the new store, and dead, worst, image_words and freeze
+ * go through it.
  *
- * The words of a store are a function of c, the default's action and the
- * rules.  Two stores with the same of these have the same words, bit for
- * bit, whatever edits brought them there, and can be compared by memcmp
+ * The words of a store are a function of its kind, c, the default's action
+ * and the rules.  Two stores with the same of these have the same words, bit
+ * for bit, whatever edits brought them there, and can be compared by memcmp
  * or a checksum.  docs/STORE.md has the layout, docs/TIMING.md what a
  * lookup costs.
  *
  *
  * COPIES, AND EDITS WHILE FRAMES FLOW
  *
- * A store may be copied and moved: it holds no address.  Its first
- * REAMSTORK_WORDS(c) words, copied by memcpy to other words, are the same
- * store, also in another program, and on another machine of the same byte
- * order.
+ * A store may be copied and moved: it holds no address.  Its words,
+ * REAMSTORK_WORDS(c) or those of a small store, REAMSTORK_SMALL_WORDS(c),
+ * copied by memcpy to other words, are the same store, also in another
+ * program, and on another machine of the same byte order.
  *
  * An edit needs its words to itself.  So that frames need not wait, have
  * two stores of the same size, and a pointer to the one that is in use:
@@ -191,25 +217,27 @@ extern "C" {
  *
  * A higher minor number adds to this header; a higher major number changes
  * what stands here.  CHANGELOG.md says what.  From 2.0 on every version
- * takes the stores of 2.0 as they are.  Words of 1.0 or 1.1, or of a later
- * version than this, may be no store of this one: run reamstork_check
- * before the first lookup in them.
+ * takes the stores of 2.0 as they are: they are small.  A version before 5.0
+ * takes no large one.  Words of 1.0 or 1.1, or of a later version than this,
+ * may be no store of this one: run reamstork_check before the first lookup
+ * in them.
  */
-#define REAMSTORK_VERSION          "4.2"
-#define REAMSTORK_VERSION_MAJOR    4
-#define REAMSTORK_VERSION_MINOR    2
+#define REAMSTORK_VERSION          "5.0"
+#define REAMSTORK_VERSION_MAJOR    5
+#define REAMSTORK_VERSION_MINOR    0
 
 /*
  * LIMITS
  */
 #define REAMSTORK_FIELDS           6            /* values of a packet       */
-#define REAMSTORK_RULES_MAX        64           /* rules besides the default */
+#define REAMSTORK_RULES_MAX        512          /* rules besides the default */
+#define REAMSTORK_SMALL_RULES_MAX  64           /* the same in a small store */
 #define REAMSTORK_NUMBER_MAX       65534        /* greatest number of a rule */
 #define REAMSTORK_DEFAULT          65535        /* number of the default     */
 #define REAMSTORK_DEFAULT_ACTION   0            /* of reamstork_start        */
 #define REAMSTORK_CELLS_MIN        6            /* least c                   */
 #define REAMSTORK_CELLS_MAX        65536        /* greatest c                */
-#define REAMSTORK_PLACES           65           /* slots of a tally record, not places of rules */
+#define REAMSTORK_PLACES           513          /* slots of a tally record, not places of rules */
 #define REAMSTORK_UNUSED           4294967295u  /* key of an unused slot     */
 
 /* Where a field stands in the arrays low and high of a rule. */
@@ -226,19 +254,26 @@ extern "C" {
 #define REAMSTORK_TOP_PORT         65535
 #define REAMSTORK_TOP_PORTLESS     1
 
+/* Word 2 of a store or an image, by its kind.  No other number is one. */
+#define REAMSTORK_SMALL            0
+#define REAMSTORK_LARGE            4
+
 /*
- * The words of a store of c cells, a constant where c is one.  For c
- * within the limits it does not overflow.  Words behind these are never
- * read or written, so `len` may be greater.
+ * The words of a store of c cells, as a start or a carrying makes it, and of
+ * a small store of c cells; constants where c is one.  For c within the
+ * limits they do not overflow.  Words behind these are never read or
+ * written, so `len` may be greater.
  */
-#define REAMSTORK_WORDS(c)         (1024ul + 8ul * (c))
+#define REAMSTORK_WORDS(c)         (8192ul + 8ul * (c))
+#define REAMSTORK_SMALL_WORDS(c)   (1024ul + 8ul * (c))
 
 /*
  * Words enough for the image of any table whose tree takes that many cells
- * or fewer, so for every store of that many, a constant where the number is
- * one.  reamstork_image_words has the exact total, which is often much less.
+ * or fewer, so for every store of that many, of either kind, a constant where
+ * the number is one.  reamstork_image_words has the exact total, which is
+ * often much less.
  */
-#define REAMSTORK_IMAGE_WORDS_MOST(cells) (1024ul + 16ul * (cells))
+#define REAMSTORK_IMAGE_WORDS_MOST(cells) (8192ul + 16ul * (cells))
 
 /*
  * ANSWERS
@@ -269,7 +304,7 @@ typedef struct { uint32_t answer, cells; } reamstork_count;
 typedef struct { uint32_t answer, dead, value[6]; } reamstork_life;
 typedef struct { uint32_t answer, reads, value[6]; } reamstork_most;
 typedef struct { uint32_t answer, low, high; } reamstork_range;
-typedef struct { uint32_t key[65], packets[65], bytes[65]; } reamstork_tallies;
+typedef struct { uint32_t key[513], packets[513], bytes[513]; } reamstork_tallies;
 typedef struct { uint32_t number, action, low[6], high[6]; } reamstork_record;
 typedef struct { uint32_t answer, rule, action; } reamstork_winner;
 typedef struct { uint32_t answer, words; } reamstork_size;
@@ -326,7 +361,7 @@ static inline reamstork_record reamstork_record_of(reamstork_rule rule)
  * START A STORE
  *
  * Makes the first REAMSTORK_WORDS(c) of the words, whatever they hold, a
- * store of c cells with the default rule alone.  reamstork_start gives the
+ * large store of c cells with the default rule alone.  reamstork_start gives the
  * default action 0, reamstork_start_with the action named.  So where 0 is
  * the caller's "drop", packets that no rule holds are dropped unless another
  * action is named.
@@ -341,6 +376,55 @@ uint32_t reamstork_start(uint32_t *words, size_t len, uint32_t c);
 uint32_t reamstork_start_with(uint32_t *words, size_t len, uint32_t c, uint32_t action);
 
 /*
+ * CARRY A TABLE INTO A NEW STORE
+ *
+ * Makes the first REAMSTORK_WORDS(c) of the words, whatever they hold, a
+ * large store of c cells with the table that the store `from` holds: its
+ * default, with its action, and all of its rules.  For a table that stands
+ * in a small store and is to grow past 64 rules, and for one that is to have
+ * more cells, or fewer: `from` may be of either kind, with a c of its own.
+ *
+ *   9  from fails the check
+ *   8  c is below 6 or above 65,536, or len below REAMSTORK_WORDS(c): as for
+ *      a start
+ *   6  the tree of the table has more locations than c
+ *   0  done
+ *
+ * in this order: the answer is the first whose condition holds.
+ *
+ * Done: the first REAMSTORK_WORDS(c) words are the new store, bit for bit
+ * what a start with the same c and default action, and inserts of the same
+ * rules in any order, leave.  It passes the check, and every word behind it
+ * is as before.  Every lookup in it gives the answer, rule, action and reads
+ * that it gives in `from`, and its image is that of `from` but for the front,
+ * which is of the new kind.  Refused: all words are as before, and none is
+ * written.
+ *
+ * No word of `from` is written in any case.  Until the answer is 0 it is the
+ * table's one copy, and it may be used meanwhile by calls that only read it.
+ * After that it may be given up, and its words used for something else.  So
+ * where `from` stands in memory that keeps it, a loss of power while the call
+ * runs loses nothing: carry again.  Tallies go on as they are, since the
+ * rules keep their numbers.
+ *
+ * reamstork_cells(from, from_len) says what c has to be at least.  A gateway
+ * finds in battery-backed memory a small store of an earlier version, kept_len
+ * words at kept, and has len words there for a large one of 4,096 cells:
+ *
+ *     uint32_t answer = reamstork_carry(kept, kept_len, store, len, 4096);
+ *
+ *     if (answer == REAMSTORK_DONE)
+ *         in_use = store, in_use_len = len;
+ *     else
+ *         in_use = kept, in_use_len = kept_len;
+ *
+ * With 9 the kept words are damaged, and there is no table to go on with.
+ * With 8 or 6 the small store is as good as before, with its limit of 64
+ * rules: a greater c may do.
+ */
+uint32_t reamstork_carry(const uint32_t *from, size_t from_len, uint32_t *words, size_t len, uint32_t c);
+
+/*
  * INSERT A RULE
  *
  *   9  the store fails the check
@@ -349,7 +433,7 @@ uint32_t reamstork_start_with(uint32_t *words, size_t len, uint32_t c, uint32_t 
  *      port range that is not 0 to 65,535, with another range than 0 to 0
  *      in field 6, portless
  *   3  a rule with this number is there
- *   5  64 rules besides the default are there
+ *   5  512 rules besides the default are there, in a small store 64
  *   6  the tree of the table with the new rule has more locations than
  *      the store has cells
  *   0  done
@@ -383,17 +467,17 @@ uint32_t reamstork_delete(uint32_t *words, size_t len, uint32_t number);
 /*
  * CHECK A STORE
  *
- *   0  the words are those of a store: word 0 is a c of 6 to 65,536, len
- *      is at least REAMSTORK_WORDS(c), word 2 is 0, the kind of store that
- *      there is, and the first REAMSTORK_WORDS(c) words hold a table
- *      within the limits and the port rule above, its tree, and every
- *      other cell on the free chain once, laid as docs/STORE.md has it and
- *      in no other way
+ *   0  the words are those of a store: word 2 is 4 for a large one or 0 for
+ *      a small one, word 0 is a c of 6 to 65,536, len is at least
+ *      REAMSTORK_WORDS(c) or REAMSTORK_SMALL_WORDS(c), and the first so
+ *      many words hold a table within the limits of the kind and the port
+ *      rule above, its tree, and every other cell on the free chain once,
+ *      laid as docs/STORE.md has it and in no other way
  *   9  otherwise
  *
- * Every store that an accepted start, insert or delete leaves passes.
- * Changes no word.  insert, delete, read, rule_at, cells, dead, worst,
- * image_words and freeze run it first.
+ * Every store that an accepted start, carrying, insert or delete leaves
+ * passes.  Changes no word.  insert, delete, read, rule_at, cells, dead,
+ * worst, image_words, freeze and carry run it first.
  *
  * The check cannot see a change that makes the words another store, such
  * as another action, or another number that leaves the numbers rising.
@@ -434,8 +518,8 @@ reamstork_rule reamstork_read(const uint32_t *words, size_t len, uint32_t number
  *   4  place is 0, or greater than the number of rules besides the default
  *   0  done: number, action and ranges of the rule at this place
  *
- * in this order.  Changes no word.  So a table is listed, with a list of
- * REAMSTORK_RULES_MAX records:
+ * in this order.  Changes no word.  So a table of either kind is listed, with
+ * a list of REAMSTORK_RULES_MAX records:
  *
  *     reamstork_rule r;
  *     uint32_t n = 0;
@@ -560,22 +644,25 @@ reamstork_most reamstork_worst(const uint32_t *words, size_t len);
  * given, and the rule and the reads are those said at the top.  Over any
  * other words the answer follows the walk:
  *
- *   Words.  Word 0 is c, and word 2 names the kind of store, which is 0.
- *   9 at once unless len is at least 3, word 2 is 0, c is 6 to 65,536,
- *   and len is at least REAMSTORK_WORDS(c).
+ *   Words.  Word 0 is c, and word 2 names the kind of store: 4 for a large
+ *   one, 0 for a small one.  9 at once unless len is at least 3, word 2 is
+ *   one of these, c is 6 to 65,536, and len is at least REAMSTORK_WORDS(c),
+ *   or REAMSTORK_SMALL_WORDS(c) for a small one.
  *
- *   Fields.  The walk begins at the cell that word 1023 names and goes
- *   through the six fields in order.  Cell k is the words 1024 + 8 k on:
- *   its end, the next cell, and what is below it.  9 at a cell that is c
- *   or more.  A cell whose end is below the field's value leads to the
- *   next cell; the first other one leads down, to the cell where the next
- *   field begins.  9 after c cells of one field that all led to the next.
+ *   Fields.  The walk begins at the cell that word 8191 names, in a small
+ *   store word 1023, and goes through the six fields in order.  Cell k is
+ *   the words 8192 + 8 k on, in a small store 1024 + 8 k: its end, the next
+ *   cell, and what is below it.  9 at a cell that is c or more.  A cell
+ *   whose end is below the field's value leads to the next cell; the first
+ *   other one leads down, to the cell where the next field begins.  9 after
+ *   c cells of one field that all led to the next.
  *
  *   Rule.  The last field leads down to p, the word of the rows at which
  *   a rule's row begins: 0 for the default, 15 for the first rule, 30 for
  *   the second, and so on.  9 if p is above 15 times word 1, above 15
- *   times 64, or no multiple of 15, which is the middle of a row.  The
- *   rule's number and action are the words 47 + p and 48 + p.
+ *   times 512, in a small store 15 times 64, or no multiple of 15, which is
+ *   the middle of a row.  The rule's number and action are the words 495 + p
+ *   and 496 + p, in a small store 47 + p and 48 + p.
  *
  *   Reads.  The number of cells so read, at most 6 c.
  */
@@ -618,12 +705,12 @@ reamstork_found reamstork_lookup_packet(const uint32_t *words, size_t len, const
 /*
  * TALLIES FOR EACH RULE
  *
- * A tally record has 65 slots, one for each rule of a full table and one
- * for the default.  Slot i is unused where key[i] is above 65,535,
- * whatever it is.  Otherwise it is the tally of the rule with the number
- * key[i]: packets[i] and bytes[i] count the packets that the rule decided
- * and their total lengths.  Both are Counter32 (RFC 2578): after
- * 4,294,967,295 they start again at 0.
+ * A tally record has 513 slots, one for each rule of a full table and one
+ * for the default, and serves stores and images of either kind.  Slot i is
+ * unused where key[i] is above 65,535, whatever it is.  Otherwise it is the
+ * tally of the rule with the number key[i]: packets[i] and bytes[i] count the
+ * packets that the rule decided and their total lengths.  Both are Counter32
+ * (RFC 2578): after 4,294,967,295 they start again at 0.
  *
  * The words of a record may be any numbers.  Whoever deletes a rule drops
  * its tally, by setting key[i] to REAMSTORK_UNUSED where key[i] is its
@@ -658,7 +745,7 @@ void reamstork_tallies_clear(reamstork_tallies *tallies);
  * began clear, and from which the tally of each deleted rule is dropped, has
  * room for a full table and its default.
  *
- * Besides the lookup this goes over the 65 keys at most once.  The other
+ * Besides the lookup this goes over the 513 keys at most once.  The other
  * lookups count nothing.
  */
 reamstork_found reamstork_lookup_packet_tally(const uint32_t *words, size_t len, const uint8_t *packet, size_t packet_len, reamstork_tallies *tallies);
@@ -680,15 +767,16 @@ uint32_t reamstork_tally_difference(uint32_t earlier, uint32_t later);
  * many cells.
  *
  *   9  the store fails the check
- *   0  done: words is the exact total of the image's words, 1,024 in front
- *      and 16 for each block
+ *   0  done: words is the exact total of the image's words, 8,192 in front,
+ *      for a small store 1,024, and 16 for each block
  *
- * Changes no word.  The total is a function of the rules' ranges, and so
- * are the blocks: the m distinct ends of a field, under one location of the
- * field before, stand in m / 8 blocks, rounded up, eight to a block; where
- * these are more than one, with blocks above them, a link for each, rounded
- * up in the same way; and so on until one is left.  A tree never has more
- * blocks than cells.  docs/IMAGE.md has the layout.
+ * Changes no word.  The total is a function of the kind and the rules'
+ * ranges, and the blocks are one of the ranges alone: the m distinct ends of
+ * a field, under one location of the field before, stand in m / 8 blocks,
+ * rounded up, eight to a block; where these are more than one, with blocks
+ * above them, a link for each, rounded up in the same way; and so on until
+ * one is left.  A tree never has more blocks than cells.  docs/IMAGE.md has
+ * the layout.
  */
 reamstork_size reamstork_image_words(const uint32_t *words, size_t len);
 
@@ -712,10 +800,11 @@ reamstork_size reamstork_image_words(const uint32_t *words, size_t len);
  * the store freeze anew, into other words where frames flow meanwhile, and
  * change over as with stores, above.
  *
- * An image holds no address and nothing of the store but its table: not its
- * c, and nothing of the edits that brought it there.  Tables with the same
- * default action and the same rules have the same image, bit for bit.  So
- * it may be copied anywhere, to flash as well, and be read where it stands.
+ * An image holds no address and nothing of the store but its kind and its
+ * table: not its c, and nothing of the edits that brought it there.  Stores of
+ * one kind with the same default action and the same rules have the same
+ * image, bit for bit.  So it may be copied anywhere, to flash as well, and be
+ * read where it stands.
  *
  * Lent at an address that is a multiple of 64, each block of it is one line
  * of a cache that has lines of 64 bytes.  No call asks for more than the
@@ -729,9 +818,9 @@ uint32_t reamstork_freeze(const uint32_t *words, size_t len, uint32_t *image, si
  * CHECK AN IMAGE
  *
  *   0  the words, all len of them, are the image of a store that passes the
- *      check: a table within the limits and the port rule, whose tree takes
- *      at most 65,536 cells, and its blocks, laid as docs/IMAGE.md has it
- *      and in no other way
+ *      check: of a kind that word 2 names, a table within its limits and the
+ *      port rule, whose tree takes at most 65,536 cells, and its blocks, laid
+ *      as docs/IMAGE.md has it and in no other way
  *   9  otherwise
  *
  * len is the exact total: with a word more or less the answer is 9.  Every
@@ -755,7 +844,8 @@ uint32_t reamstork_image_check(const uint32_t *image, size_t len);
  * Changes no word.  So no lookup over this image reads more blocks than
  * reads, by values or by packet, and the lookup of value reads exactly that
  * many.  The default alone gives 6 and six zeros.  No table gives less than
- * 6, and none more than 18.
+ * 6, and none more than 24; no table of up to 255 rules, so no small image,
+ * gives more than 18.
  *
  *     reamstork_most m = reamstork_image_worst(image, len);
  *     if (m.answer == REAMSTORK_DONE)
@@ -786,7 +876,8 @@ reamstork_most reamstork_image_worst(const uint32_t *image, size_t len);
  * blocks read are the least L of at least 1 with 8^L not below m, the
  * distinct ends of the rules whose ranges hold the earlier values.  With n
  * rules besides the default m is at most 2 n + 1: so 6 blocks suffice for
- * up to 3 rules, 12 for up to 31, and 18 for a full table.
+ * up to 3 rules, 12 for up to 31, 18 for up to 255, so for every small
+ * image, and 24 for a full table of 512.
  *
  * Besides its blocks a lookup touches the words 1 and 2 of the image and
  * two words of a row; this is measured, not proved.
@@ -794,16 +885,18 @@ reamstork_most reamstork_image_worst(const uint32_t *image, size_t len);
  * A lookup does not run the check.  Over any other words the answer follows
  * the walk:
  *
- *   Words.  9 at once unless len is at least 1,024 and word 2 is 0.
+ *   Words.  9 at once unless len is at least 3 and word 2 is 4 with len at
+ *   least 8,192, or 0 with len at least 1,024.
  *
  *   Fields.  The walk begins at block 0 and goes through the six fields in
- *   order.  Block b is the words 1024 + 16 b on: eight ends, and a link for
- *   each.  9 at a block that is not within len.  As many ends as are below
- *   the field's value, so many links are passed over, and the next one is
- *   taken; 9 if all eight ends are below it.  A link below 2,147,483,648
- *   names a block, and the walk goes on there in this field.  Of any other
- *   the rest, less 2,147,483,648, is the block where the next field begins.
- *   9 after 8 blocks of one field that all led on within it.
+ *   order.  Block b is the words 8192 + 16 b on, in a small image
+ *   1024 + 16 b: eight ends, and a link for each.  9 at a block that is not
+ *   within len.  As many ends as are below the field's value, so many links
+ *   are passed over, and the next one is taken; 9 if all eight ends are below
+ *   it.  A link below 2,147,483,648 names a block, and the walk goes on there
+ *   in this field.  Of any other the rest, less 2,147,483,648, is the block
+ *   where the next field begins.  9 after 8 blocks of one field that all led
+ *   on within it.
  *
  *   Rule.  In the last field that rest is p, the word of the rows at which
  *   a rule's row begins, and p is taken or refused as in reamstork_lookup.

@@ -30,7 +30,7 @@
 
 #include "tables.h"
 
-enum { ROUNDS = 21, PACKETS = 1024, COLD = 24, OTHER = 8 << 20, MANY = 16, RULES = 64 };
+enum { ROUNDS = 21, PACKETS = 1024, COLD = 24, OTHER = 8 << 20, MANY = 16, RULES = REAMSTORK_RULES_MAX };
 enum { IMAGE_MOST = REAMSTORK_IMAGE_WORDS_MOST(65536) };
 
 /* What decides a packet, and the columns of the tables below. */
@@ -263,10 +263,15 @@ static int rising(const void *a, const void *b)
 	return (x > y) - (x < y);
 }
 
+static double median_of(double *x, int n)
+{
+	qsort(x, (size_t)n, sizeof *x, rising);
+	return x[n / 2];
+}
+
 static double median(double *x)
 {
-	qsort(x, ROUNDS, sizeof *x, rising);
-	return x[ROUNDS / 2];
+	return median_of(x, ROUNDS);
 }
 
 static void measure(const char *name, double (*thing)(int, uint32_t))
@@ -310,7 +315,7 @@ static size_t heap(void)
 static double load_store(void)
 {
 	double from = now();
-	uint32_t wrong = reamstork_start(words, len, (uint32_t)((len - 1024) / 8));
+	uint32_t wrong = reamstork_start(words, len, (uint32_t)((len - 8192) / 8));
 
 	for (uint32_t i = 0; i < rule_count; i++)
 		wrong |= reamstork_insert(words, len, rules[i].number, rules[i].action, rules[i].low, rules[i].high);
@@ -356,8 +361,10 @@ static void costs(void)
 {
 	double load[ROUNDS], edit[ROUNDS], frozen[ROUNDS], made[2][ROUNDS], cut[2][ROUNDS];
 	size_t memory[2];
+	/* all of a large table is loaded by as many inserts, each of which runs a check */
+	int rounds = rule_count > 64 ? 3 : ROUNDS;
 
-	for (int i = 0; i < ROUNDS; i++) {
+	for (int i = 0; i < rounds; i++) {
 		load[i] = load_store();
 		edit[i] = edit_store();
 		frozen[i] = freeze();
@@ -371,8 +378,8 @@ static void costs(void)
 			memory[which] = heap() - before;
 		}
 	}
-	printf("  %-26s %9.1f %9.1f %9.1f %9.1f %9s\n", "all rules loaded, us", median(load) / 1e3, (median(load) + median(frozen)) / 1e3, median(made[0]) / 1e3, median(made[1]) / 1e3, "-");
-	printf("  %-26s %9.1f %9.1f %9.1f %9.1f %9s\n", "one rule deleted, us", median(edit) / 1e3, (median(edit) + median(frozen)) / 1e3, median(cut[0]) / 1e3, median(cut[1]) / 1e3, "-");
+	printf("  %-26s %9.1f %9.1f %9.1f %9.1f %9s\n", "all rules loaded, us", median_of(load, rounds) / 1e3, (median_of(load, rounds) + median_of(frozen, rounds)) / 1e3, median_of(made[0], rounds) / 1e3, median_of(made[1], rounds) / 1e3, "-");
+	printf("  %-26s %9.1f %9.1f %9.1f %9.1f %9s\n", "one rule deleted, us", median_of(edit, rounds) / 1e3, (median_of(edit, rounds) + median_of(frozen, rounds)) / 1e3, median_of(cut[0], rounds) / 1e3, median_of(cut[1], rounds) / 1e3, "-");
 	printf("  %-26s %9zu %9zu %9zu %9zu %9zu\n", "memory, bytes", 4 * len, 4 * image_len, memory[0], memory[1], rule_count * sizeof records[0]);
 }
 
@@ -400,9 +407,8 @@ static void times(uint32_t n, uint32_t c, uint32_t budget, int overlap)
 	double batch[2][ROUNDS];
 
 	seed = 20261115;
-	len = REAMSTORK_WORDS(c);
 	rule_count = n;
-	draw_table(words, len, c, rules, n, budget, overlap);
+	len = draw_table(words, 0, c, rules, n, budget, overlap);
 	for (uint32_t i = 0; i < n; i++) {
 		records[i].number = rules[i].number;
 		records[i].action = rules[i].action;
@@ -421,7 +427,7 @@ static void times(uint32_t n, uint32_t c, uint32_t budget, int overlap)
 		build_acl(which, UINT32_MAX);
 	compare();
 
-	printf("%u rules, c = %u, %u cells in use, image of %u blocks; %d packets, all winners the same\n", n, c, reamstork_cells(words, len).cells, (unsigned)(image_len - 1024) / 16, PACKETS);
+	printf("%u rules, c = %u, %u cells in use, image of %u blocks; %d packets, all winners the same\n", n, c, reamstork_cells(words, len).cells, (unsigned)(image_len - 8192) / 16, PACKETS);
 	printf("  %-26s", "");
 	for (int peer = 0; peer < PEERS; peer++)
 		printf(" %9s", names[peer]);
@@ -467,5 +473,7 @@ int main(void)
 	times(10, 1920, 400, 0);
 	times(60, 1920, 1900, 0);
 	times(60, 65536, 60000, 1);
+	times(400, 65536, 12800, 0);
+	times(400, 65536, 60000, 1);
 	return 0;
 }

@@ -49,14 +49,14 @@ row() {
 	shift
 	for column in $columns; do
 		figure=$("$@" "$column")
-		printf '%8d' "$figure"
+		printf '%9d' "$figure"
 	done
 	echo
 }
 
 head() {
 	printf '%-46s' "$1"
-	printf '%8d' $columns
+	printf '%9d' $columns
 	echo
 }
 
@@ -67,22 +67,22 @@ it by the same function. All rules have the same ranges, so of a whole insert
 only finding the place and moving the rows behind it depend on the place.
 
 END
-columns='1 2 8 16 32 62 63'
+columns='1 8 64 128 256 510 511'
 above_all() { place "$1" "$1"; }
 head 'rules, all below the new number:'
 row 'finding the place: read, 4 less 1' above_all
 
-columns='0 1 16 32 48 62 63'
-of_63() { place "$1" 63; }
-head 'of 63 rules below the new number:'
-row 'finding the place: read, 4 less 1' of_63
-row 'a whole insert' count insert 0 insert 63
+columns='0 1 128 256 384 510 511'
+of_511() { place "$1" 511; }
+head 'of 511 rules below the new number:'
+row 'finding the place: read, 4 less 1' of_511
+row 'a whole insert' count insert 0 insert 511
 
-columns='0 1 16 32 48 63 64'
-of_64() {
-	after=$(count insert 5 insert 64 "$1")
-	before=$(count insert 2 wrong 64 "$1")
+columns='0 1 128 256 384 511 512'
+of_512() {
+	after=$(count insert 5 insert 512 "$1")
+	before=$(count insert 2 wrong 512 "$1")
 	echo $((after - before))
 }
-head 'of 64 rules below the new number:'
-row 'finding the place: insert, 5 less 2' of_64
+head 'of 512 rules below the new number:'
+row 'finding the place: insert, 5 less 2' of_512

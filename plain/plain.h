@@ -15,6 +15,7 @@
 
 uint32_t plain_start(uint32_t *words, size_t len, uint32_t c);
 uint32_t plain_start_with(uint32_t *words, size_t len, uint32_t c, uint32_t action);
+uint32_t plain_carry(const uint32_t *from, size_t from_len, uint32_t *words, size_t len, uint32_t c);
 uint32_t plain_insert(uint32_t *words, size_t len, uint32_t number, uint32_t action, const uint32_t low[6], const uint32_t high[6]);
 uint32_t plain_delete(uint32_t *words, size_t len, uint32_t number);
 uint32_t plain_check(const uint32_t *words, size_t len);

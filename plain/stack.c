@@ -2,7 +2,8 @@
  * stack.c - the stack that each call uses
  *
  * Each call runs on a painted stack of its own, over a table of 64 rules
- * in a store of 65,536 cells.  What has lost its paint was used: the bytes
+ * in a small store and one of 512 in a large store, both of 65,536 cells.
+ * What has lost its paint was used: the bytes
  * from the caller's frame down to the lowest changed one, the caller's
  * arguments among them.  Room that a call reserves at its very deepest and
  * never writes keeps its paint and is not seen.
@@ -16,11 +17,12 @@
 
 enum { CELLS = 65536, STACK = 1 << 20 };
 
-static uint32_t words[REAMSTORK_WORDS(CELLS)], fresh[REAMSTORK_WORDS(1920)];
-static const size_t len = REAMSTORK_WORDS(CELLS);
+static uint32_t words[REAMSTORK_WORDS(CELLS)], fresh[REAMSTORK_WORDS(1920)], carried[REAMSTORK_WORDS(CELLS)];
+static size_t len;
 static uint32_t image[REAMSTORK_IMAGE_WORDS_MOST(CELLS)];
 static size_t image_len;
-static struct rule rules[64];
+static struct rule rules[REAMSTORK_RULES_MAX];
+static uint32_t rule_count;
 static uint32_t values[REAMSTORK_FIELDS];
 static uint8_t packet[28];
 static reamstork_tallies tallies;
@@ -78,6 +80,11 @@ static void start(void)
 static void start_with(void)
 {
 	answer |= reamstork_start_with(fresh, REAMSTORK_WORDS(1920), 1920, 7);
+}
+
+static void carry(void)
+{
+	answer |= reamstork_carry(words, len, carried, REAMSTORK_WORDS(CELLS), CELLS);
 }
 
 static void take_out(void)
@@ -182,9 +189,9 @@ static void tallies_clear(void)
 
 static void scan(void)
 {
-	static reamstork_record records[64];
+	static reamstork_record records[REAMSTORK_RULES_MAX];
 
-	answer |= reamstork_scan(records, 64, 1, values[0], values[1], values[2], values[3], values[4], values[5]).answer;
+	answer |= reamstork_scan(records, rule_count, 1, values[0], values[1], values[2], values[3], values[4], values[5]).answer;
 }
 
 static void prefix(void)
@@ -206,45 +213,63 @@ static void in_turn(size_t *a, size_t *b, void (*f)(void), void (*g)(void))
 	}
 }
 
+static size_t base, most;
+
 static void say(const char *name, size_t bytes)
 {
+	bytes -= base;
+	most = bytes > most ? bytes : most;
 	printf("  %-36s %8zu bytes\n", name, bytes);
+}
+
+/* All calls over a table of n rules that overlap and whose tree takes at most so many cells. */
+static void all(int small, uint32_t n, uint32_t budget)
+{
+	size_t a, b;
+
+	seed = 20261115;
+	most = 0;
+	rule_count = n;
+	len = draw_table(words, small, CELLS, rules, n, budget, 1);
+	draw_values(values, rules, n);
+	write_packet(packet, values);
+	reamstork_tallies_clear(&tallies);
+	printf("%u rules in a %s store, c = %d, %u cells in use\n", n, small ? "small" : "large", CELLS, reamstork_cells(words, len).cells);
+	in_turn(&a, &b, take_out, put_in);
+	say("reamstork_start", used(start));
+	say("reamstork_start_with", used(start_with));
+	say("reamstork_carry", used(carry));
+	say("reamstork_insert", b);
+	say("reamstork_delete", a);
+	say("reamstork_check", used(check));
+	say("reamstork_read", used(read_one));
+	say("reamstork_rule_at", used(rule_at));
+	say("reamstork_cells", used(cells));
+	say("reamstork_dead", used(dead));
+	say("reamstork_worst", used(worst));
+	say("reamstork_image_words", used(image_words));
+	say("reamstork_freeze", used(freeze));
+	say("reamstork_image_check", used(image_check));
+	say("reamstork_image_worst", used(image_worst));
+	printf("  %-36s %8zu bytes\n", "the most of these", most);
+	most = 0;
+	say("reamstork_lookup", used(lookup));
+	say("reamstork_lookup_packet", used(lookup_packet));
+	say("reamstork_lookup_packet_tally", used(lookup_packet_tally));
+	say("reamstork_image_lookup", used(image_lookup));
+	say("reamstork_image_lookup_packet", used(image_lookup_packet));
+	say("reamstork_image_lookup_packet_tally", used(image_lookup_packet_tally));
+	say("reamstork_tallies_clear", used(tallies_clear));
+	say("reamstork_scan", used(scan));
+	say("reamstork_prefix", used(prefix));
+	printf("  %-36s %8zu bytes\n\n", "the most of these", most);
 }
 
 int main(void)
 {
-	size_t base = used(nothing), a, b;
-
-	seed = 20261115;
-	draw_table(words, len, CELLS, rules, 64, 60000, 1);
-	draw_values(values, rules, 64);
-	write_packet(packet, values);
-	reamstork_tallies_clear(&tallies);
-	printf("64 rules, c = %d, %u cells in use\n", CELLS, reamstork_cells(words, len).cells);
-	in_turn(&a, &b, take_out, put_in);
-	say("reamstork_start", used(start) - base);
-	say("reamstork_start_with", used(start_with) - base);
-	say("reamstork_insert", b - base);
-	say("reamstork_delete", a - base);
-	say("reamstork_check", used(check) - base);
-	say("reamstork_read", used(read_one) - base);
-	say("reamstork_rule_at", used(rule_at) - base);
-	say("reamstork_cells", used(cells) - base);
-	say("reamstork_dead", used(dead) - base);
-	say("reamstork_worst", used(worst) - base);
-	say("reamstork_lookup", used(lookup) - base);
-	say("reamstork_lookup_packet", used(lookup_packet) - base);
-	say("reamstork_lookup_packet_tally", used(lookup_packet_tally) - base);
-	say("reamstork_image_words", used(image_words) - base);
-	say("reamstork_freeze", used(freeze) - base);
-	say("reamstork_image_check", used(image_check) - base);
-	say("reamstork_image_worst", used(image_worst) - base);
-	say("reamstork_image_lookup", used(image_lookup) - base);
-	say("reamstork_image_lookup_packet", used(image_lookup_packet) - base);
-	say("reamstork_image_lookup_packet_tally", used(image_lookup_packet_tally) - base);
-	say("reamstork_tallies_clear", used(tallies_clear) - base);
-	say("reamstork_scan", used(scan) - base);
-	say("reamstork_prefix", used(prefix) - base);
+	base = used(nothing);
+	all(1, REAMSTORK_SMALL_RULES_MAX, 60000);
+	all(0, REAMSTORK_RULES_MAX, 65024);
 	if (answer != 0) {
 		printf("a call was refused: %u\n", answer);
 		return 1;

@@ -1,5 +1,5 @@
 #!/bin/sh
-# The stack that each call of the library uses, over a full table.
+# The stack that each call of the library uses, over a full table of each kind of store.
 #
 #     sh plain/stack.sh ARCHIVE
 #     sh plain/stack.sh plain        plain C in the library's place
@@ -11,5 +11,6 @@
 program=stack
 . "$(dirname "$0")/build.sh"
 
-$cc -o "$dir/stack" "$dir/stack.o" "$dir/plain.o" "$archive" ${LIBS:-}
+# Names are bound when the program begins: bound within a call, that would be on its stack.
+$cc -Wl,-z,now -o "$dir/stack" "$dir/stack.o" "$dir/plain.o" "$archive" ${LIBS:-}
 ${RUN:-} "$dir/stack"

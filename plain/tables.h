@@ -3,7 +3,8 @@
  *
  * A table of many rules can need far more cells than any store has, so
  * each rule is drawn until the tree stays within its share of a number of
- * cells: after i of n rules at most i / n of it.
+ * cells: after i of n rules at most i / n of it.  So 400 rules that overlap
+ * fit 65,536 cells: about nine of twenty that are drawn do.
  */
 #ifndef TABLES_H
 #define TABLES_H
@@ -77,10 +78,41 @@ static void draw_rule(struct rule *r, int overlap)
 	}
 }
 
-/* Draws n rules into a store of c cells; their tree takes at most budget. */
-static void draw_table(uint32_t *words, size_t len, uint32_t c, struct rule *rules, uint32_t n, uint32_t budget, int overlap)
+/*
+ * Starts a small store of c cells with the default alone, as it stands in
+ * memory that an earlier version wrote: no call starts one.
+ */
+static void start_small(uint32_t *words, uint32_t c)
 {
-	plain_start(words, len, c);
+	uint32_t *row = words + 47, *cells = words + 1024;
+
+	for (size_t i = 0; i < REAMSTORK_SMALL_WORDS(c); i++)
+		words[i] = 0;
+	words[0] = c;
+	row[0] = REAMSTORK_DEFAULT;
+	row[1] = REAMSTORK_DEFAULT_ACTION;
+	words[1022] = REAMSTORK_FIELDS;
+	for (uint32_t k = 0; k < c; k++)
+		cells[8 * k + 1] = k < REAMSTORK_FIELDS ? c : k + 1;
+	for (uint32_t f = 0; f < REAMSTORK_FIELDS; f++) {
+		row[3 + 2 * f] = tops[f];
+		cells[8 * f] = tops[f];
+		cells[8 * f + 2] = f + 1 < REAMSTORK_FIELDS ? f + 1 : 0;
+	}
+}
+
+/*
+ * Draws n rules into a store of c cells, a small one or a large one; their
+ * tree takes at most budget.  Says how many words the store has.
+ */
+static size_t draw_table(uint32_t *words, int small, uint32_t c, struct rule *rules, uint32_t n, uint32_t budget, int overlap)
+{
+	size_t len = small ? REAMSTORK_SMALL_WORDS(c) : REAMSTORK_WORDS(c);
+
+	if (small)
+		start_small(words, c);
+	else
+		plain_start(words, len, c);
 	for (uint32_t i = 0; i < n; ) {
 		struct rule *r = &rules[i];
 
@@ -94,6 +126,7 @@ static void draw_table(uint32_t *words, size_t len, uint32_t c, struct rule *rul
 		else
 			i++;
 	}
+	return len;
 }
 
 /* Values of TCP or UDP packets with ports that some rule holds, or any others within 10.0.0.0. */
@@ -101,7 +134,7 @@ static void draw_values(uint32_t v[REAMSTORK_FIELDS], const struct rule *rules, 
 {
 	struct rule r;
 
-	if (draw(100) < 80)
+	if (n > 0 && draw(100) < 80)
 		r = rules[draw(n)];
 	else
 		draw_rule(&r, 0);

@@ -11,17 +11,18 @@ import tempfile
 from array import array
 from pathlib import Path
 
-from loads import (BASE, CELLS, CHECK, CLEAR, DEAD, DELETE, DIFFERENCE, FILL, FREEZE, GET,
+from loads import (BASE, CARRY, CELLS, CHECK, CLEAR, DEAD, DELETE, DIFFERENCE, FILL, FREEZE, GET,
                    IMAGE_CHECK, IMAGE_LOOKUP, IMAGE_PACKET, IMAGE_TALLY, IMAGE_WORDS, IMAGE_WORST,
-                   INSERT, LOOKUP, LOOKUP_PACKET, LOOKUP_TALLY, PLACES, PREFIX, READ, RULE_AT, SCAN,
-                   START, START_WITH, WORST, Call)
+                   INSERT, LOOKUP, LOOKUP_PACKET, LOOKUP_TALLY, PREFIX, READ, RULE_AT, SCAN, START,
+                   START_WITH, WORST, Call)
+from reference import PLACES
 
 ROOT = Path(__file__).resolve().parent.parent
 # valgrind runs programs of its own machine alone: the archive is that for this one
 ARM = platform.machine() == 'aarch64'
 ARCHIVE = ROOT / ('target/aarch64' if ARM else 'target/staticlib') / 'libreamstork.a'
 # the words that each call gives
-GIVEN = {START: 1, START_WITH: 1, INSERT: 1, DELETE: 1, CHECK: 1, READ: 15,
+GIVEN = {START: 1, START_WITH: 1, CARRY: 1, INSERT: 1, DELETE: 1, CHECK: 1, READ: 15,
          RULE_AT: 15, DEAD: 8, WORST: 8, CELLS: 2, LOOKUP: 4,
          LOOKUP_PACKET: 4, LOOKUP_TALLY: 4 + 3 * PLACES, SCAN: 3, PREFIX: 3, CLEAR: 0,
          DIFFERENCE: 1, IMAGE_WORDS: 2, FREEZE: 1, IMAGE_CHECK: 1, IMAGE_LOOKUP: 4,
@@ -74,6 +75,12 @@ class Script:
         self.input.extend([FREEZE, room])
         self.calls.append(Call(FREEZE, (room, total), self.words, self.len, b'', (), 0))
         self.given += GIVEN[FREEZE]
+
+    def carry(self, room, c):
+        """Into that many words."""
+        self.input.extend([CARRY, room, c])
+        self.calls.append(Call(CARRY, (room, c), self.words, self.len, b'', (), 0))
+        self.given += GIVEN[CARRY]
 
     def scan(self, rules, values):
         records = [x for rule in rules for x in (rule.number, rule.action, *rule.low, *rule.high)]

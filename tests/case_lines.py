@@ -3,7 +3,7 @@
 
     tests/case_lines.py [--write]
 
-Four parts of that file repeat one thing many times: 64 rules, three rules
+Four parts of that file repeat one thing many times: 512 rules, three rules
 deleted in every order, the same packets over several tables, and port ranges
 with each range of field 6. They are written here, between the lines '# written by
 tests/case_lines.py' and '# as far as here'; --write puts them into the file.
@@ -17,7 +17,7 @@ import os
 import re
 import sys
 
-from reference import Account, BAD_STORE, LEAST_CELLS, read_header
+from reference import Account, BAD_STORE, LARGE, LEAST_CELLS, read_header
 
 ROOT = os.path.join(os.path.dirname(os.path.abspath(__file__)), '..')
 PATH = os.path.join(ROOT, 'crates', 'cases', 'stdin')
@@ -68,11 +68,11 @@ CELLS = {(): 6, (10,): 33, (20,): 18, (30,): 33, (10, 20): 54, (10, 30): 69, (20
 # ---- the repeated lines -------------------------------------------------
 
 def many_rules():
-    return ['insert %d 5 %s = 0' % (number, FULL) for number in range(64)]
+    return ['insert %d 5 %s = 0' % (number, FULL) for number in range(LARGE.rules)]
 
 
 def store_of(rules, fill):
-    return (['room 1664 %d = 1664' % fill, 'start 80 1 = 0']
+    return (['room 8832 %d = 8832' % fill, 'start 80 1 = 0']
             + ['insert %s = 0' % RULES[rule] for rule in rules])
 
 
@@ -94,7 +94,7 @@ def packets():
     lines = ['header x%s = 0 10.0.0.5 192.168.1.9 %d %d %d %d' % packet for packet in PACKETS]
     for rules, cells, low, high, without in TABLES:
         lines += ['# destination port, source port and field 6: ' + ', and '.join(rules)]
-        lines += ['room 1456 0 = 1456', 'start 54 1 = 0']
+        lines += ['room 8624 0 = 8624', 'start 54 1 = 0']
         lines += ['insert %s %s %s = 0' % (rule, ANY, asked)
                   for rule, asked in zip(('10 2', '20 3'), rules)] + ['cells = 0 %d' % cells]
         for packet, _, port, _, portless in PACKETS:

@@ -1,6 +1,7 @@
 """Cases about packets that are cut short: request P5, 14 behind 7 and before 9."""
 
-from reference import DEFAULT, NO_PLACE, Tally, words_needed
+from laid import BEGIN, link_of
+from reference import DEFAULT, NO_PLACE, PLACES, Tally, words_needed
 from store import Store, expect, fresh
 from tables import World, packet_of, random_packet
 from tallies import CLEAR, ask, some_record
@@ -9,7 +10,7 @@ from walk import walk_packet
 VALUES = (0x0A000005, 0xC0A80109, 17, 5004, 40000)
 BAD, CUT, LOST = (7, 0, 0, 0), (14, 0, 0, 0), (9, 0, 0, 0)
 # No place of it is unused, and none is the default's.
-TAKEN = tuple(range(65)) + (5,) * 130
+TAKEN = tuple(range(PLACES)) + (5,) * (2 * PLACES)
 
 
 def pair(talk):
@@ -102,8 +103,8 @@ def cuts(talk, rng):
     record = some_record(rng, [rule.number for rule in table])
     talk.get(store.id, 0, store.length)
     words = list(talk.flush()[-1])
-    cell = 1024 + 8 * rng.randrange(store.account.c) + rng.randrange(3)
-    place = rng.choice((0, 1, 2, 1023, cell))
+    cell = store.kind.front + 8 * rng.randrange(store.account.c) + rng.randrange(3)
+    place = rng.choice((0, 1, 2, link_of(store.kind, BEGIN), cell))
     words[place] = rng.choice((0, 1, 5, 2 ** 32 - 1, rng.getrandbits(32)))
     other = Store(talk, store.length)
     talk.set(other.id, 0, words)

@@ -4,7 +4,8 @@ import itertools
 from math import prod
 
 from portless import rule_of
-from reference import (BENCH_RULES, DEFAULT, PORTLESS, PORTS, TOPS, Rule, default_rule,
+from laid import places_of, row_of
+from reference import (BENCH_RULES, DEFAULT, KINDS, PORTLESS, PORTS, TOPS, Rule, default_rule,
                        least_record, scan, words_needed)
 from store import expect, fresh
 from tables import CHOICES, World, narrow, values_near
@@ -121,8 +122,8 @@ def lives(store, rng):
     return {rule.number: life(store, rng, rule.number) for rule in store.account.table()}
 
 
-def loaded(talk, rng, rules, c=600, action=None):
-    store = fresh(talk, rng, c, action)
+def loaded(talk, rng, rules, c=600, action=None, kind=None):
+    store = fresh(talk, rng, c, action, kind)
     for rule in rng.sample(rules, len(rules)):
         expect(store.insert(rule) == 0, 'a table of a fixed case is not taken')
     return store
@@ -301,8 +302,13 @@ def dead_refusals(talk, rng):
     rules = [rule_of(0, 1, (5, 9)), rule_of(300, 2, (6, 8)), rule_of(65534, 3, (1, 2))]
     high = (65536, 65537, 65536 + 300, 131071, 2 ** 31, WORD)
     missing = (1, 299, 301, 65533)
-    store = loaded(talk, rng, rules)
-    n = words_needed(600)
+    for kind in KINDS:
+        refusals_of(talk, rng, rules, high, missing, kind)
+
+
+def refusals_of(talk, rng, rules, high, missing, kind):
+    store = loaded(talk, rng, rules, kind=kind)
+    n, row = words_needed(600, kind), row_of(kind, 1)
     want = {0: live(5, 0, 0, 0, 0, 0), 300: DEAD, 65534: live(1, 0, 0, 0, 0, 0),
             DEFAULT: live(*NONE), **{number: refused(1) for number in high},
             **{number: refused(4) for number in missing}}
@@ -313,26 +319,25 @@ def dead_refusals(talk, rng):
     talk.get(store.id, 0, n)
     words = list(talk.flush()[-1])
     # one word wrong, of every part of a store; and words too few, all of them right
-    for position in (0, 1, 2, 46, 47, 49, 64, 76, 1021, 1022, 1023, 1024, 1025, 1026, 1027, n - 8,
-                     n - 1):
+    for position in (0, 1, 2, *places_of(kind), n - 8, n - 1):
         talk.set(store.id, position, [words[position] ^ 1])
         for number in want:
             talk.dead(store.id, number, refused(9))
         talk.set(store.id, position, [words[position]])
-    for length in (0, 1, 2, 3, 1023, 1024, 1072, n - 1):
+    for length in (0, 1, 2, 3, kind.front - 1, kind.front, kind.front + 48, n - 1):
         talk.lend(store.id, length)
         for number in want:
             talk.dead(store.id, number, refused(9))
     talk.lend(store.id, n)
     # an action and a number that leave another store: the rule is asked for under its new number
-    talk.set(store.id, 62, [7, 77])
+    talk.set(store.id, row, [7, 77])
     talk.dead(store.id, 7, live(5, 0, 0, 0, 0, 0))
     talk.dead(store.id, 0, refused(4))
-    talk.set(store.id, 62, words[62:64])
+    talk.set(store.id, row, words[row:row + 2])
     for number, said in want.items():
         talk.dead(store.id, number, said)
     # no word is changed: the words of another store with the same table
-    talk.same(store.id, loaded(talk, rng, rules).id, n)
+    talk.same(store.id, loaded(talk, rng, rules, kind=kind).id, n)
     store.delete(300)
     talk.dead(store.id, 300, refused(4))
     talk.flush()

@@ -12,15 +12,18 @@ import subprocess
 from array import array
 from collections import Counter
 
-RESET, MAKE, LEND, SET, GET, DIGEST, SAME, COPY = range(8)
+from reference import PLACES
+
+RESET, MAKE, LEND, SET, GET, DIGEST, SAME, COPY, HOLDS = range(9)
 (START, START_WITH, INSERT, DELETE, CHECK, READ, CELLS, LOOKUP, PACKET, PREFIX, SCAN,
- RULE_AT, DEAD, WORST) = range(16, 30)
+ RULE_AT, DEAD, WORST, CARRY) = range(16, 31)
 TALLY, CLEAR, DIFFERENCE, RECORDS = range(32, 36)
 (IMAGE_WORDS, FREEZE, IMAGE_CHECK, IMAGE_LOOKUP, IMAGE_PACKET, IMAGE_TALLY,
  IMAGE_WORST) = range(40, 47)
-RECORD = 3 * 65
+RECORD = 3 * PLACES
 NAMES = {RESET: 'reset', MAKE: 'make', LEND: 'lend', SET: 'set', GET: 'get', DIGEST: 'digest',
-         SAME: 'same', COPY: 'copy', START: 'start', START_WITH: 'start_with', INSERT: 'insert',
+         SAME: 'same', COPY: 'copy', HOLDS: 'holds', CARRY: 'carry', START: 'start',
+         START_WITH: 'start_with', INSERT: 'insert',
          DELETE: 'delete', CHECK: 'check', READ: 'read', CELLS: 'cells', LOOKUP: 'lookup',
          PACKET: 'lookup_packet', PREFIX: 'prefix', SCAN: 'scan', RULE_AT: 'rule_at',
          DEAD: 'dead', WORST: 'worst', TALLY: 'lookup_packet_tally',
@@ -28,13 +31,13 @@ NAMES = {RESET: 'reset', MAKE: 'make', LEND: 'lend', SET: 'set', GET: 'get', DIG
          IMAGE_WORDS: 'image_words', FREEZE: 'freeze', IMAGE_CHECK: 'image_check',
          IMAGE_LOOKUP: 'image_lookup', IMAGE_PACKET: 'image_lookup_packet',
          IMAGE_TALLY: 'image_lookup_packet_tally', IMAGE_WORST: 'image_worst'}
-SIZES = {RESET: 0, MAKE: 0, LEND: 0, SET: 0, DIGEST: 2, SAME: 1, COPY: 0, START: 1, START_WITH: 1,
-         INSERT: 1, DELETE: 1, CHECK: 1, READ: 15, CELLS: 2, LOOKUP: 4, PACKET: 4, PREFIX: 3,
-         SCAN: 66, RULE_AT: 15, DEAD: 8, WORST: 8, TALLY: 4 + RECORD, CLEAR: RECORD, DIFFERENCE: 1,
-         RECORDS: 3, IMAGE_WORDS: 2, FREEZE: 1, IMAGE_CHECK: 1, IMAGE_LOOKUP: 4, IMAGE_PACKET: 4,
-         IMAGE_TALLY: 4 + RECORD, IMAGE_WORST: 8}
-EDITS = (MAKE, LEND, SET, COPY, START, START_WITH, INSERT, DELETE, FREEZE)
-INTO_ANOTHER = (COPY, FREEZE)  # these write the second of two stores
+SIZES = {RESET: 0, MAKE: 0, LEND: 0, SET: 0, DIGEST: 2, SAME: 1, COPY: 0, HOLDS: 0, CARRY: 1,
+         START: 1, START_WITH: 1, INSERT: 1, DELETE: 1, CHECK: 1, READ: 15, CELLS: 2, LOOKUP: 4,
+         PACKET: 4, PREFIX: 3, SCAN: 66, RULE_AT: 15, DEAD: 8, WORST: 8, TALLY: 4 + RECORD,
+         CLEAR: RECORD, DIFFERENCE: 1, RECORDS: 3, IMAGE_WORDS: 2, FREEZE: 1, IMAGE_CHECK: 1,
+         IMAGE_LOOKUP: 4, IMAGE_PACKET: 4, IMAGE_TALLY: 4 + RECORD, IMAGE_WORST: 8}
+EDITS = (MAKE, LEND, SET, COPY, HOLDS, CARRY, START, START_WITH, INSERT, DELETE, FREEZE)
+INTO_ANOTHER = (COPY, FREEZE, CARRY)  # these write the second of two stores
 GUARDED, END_AT_WALL, FRONT_AT_WALL = range(3)
 NO_DIFFERENCE = 0xFFFFFFFF
 
@@ -159,6 +162,11 @@ class Talk:
     def copy(self, a, b, n):
         self.queue_command(COPY, (a, b, n))
 
+    def holds(self, store, n):
+        """Tells the driver how many words a store takes that no start made: edits may change
+        none behind them."""
+        self.queue_command(HOLDS, (store, n))
+
     # -- calls: `want` is what must come back, None asks --
 
     def start(self, store, c, want=None):
@@ -166,6 +174,10 @@ class Talk:
 
     def start_with(self, store, c, action, want=None):
         self.queue_command(START_WITH, (store, c, action), want)
+
+    def carry(self, store, other, c, want=None):
+        """Carries the table of a store into the words of another."""
+        self.queue_command(CARRY, (store, other, c), want)
 
     def insert(self, store, rule, want=None):
         self.queue_command(INSERT, (store, rule.number, rule.action) + rule.low + rule.high, want)
@@ -199,7 +211,7 @@ class Talk:
                            tail=packet + bytes(-len(packet) % 4))
 
     def tally(self, store, packet, record, want=None):
-        """A record is its 65 keys, 65 packets and 65 bytes; `want` is the four
+        """A record is its 513 keys, 513 packets and 513 bytes; `want` is the four
         numbers of the answer and then the record that is left."""
         self.queue_command(TALLY, (store, len(packet)), want,
                            tail=array('I', record).tobytes() + packet + bytes(-len(packet) % 4))
@@ -273,7 +285,7 @@ class Talk:
             got = PACKERS[size].unpack_from(results, at) if size in PACKERS else array(
                 'I', results[at:at + 4 * size])
             at += 4 * size
-            if (START <= op <= PREFIX or op in (RULE_AT, DEAD, WORST, TALLY, RECORDS)
+            if (START <= op <= PREFIX or op in (RULE_AT, DEAD, WORST, CARRY, TALLY, RECORDS)
                     or op >= IMAGE_WORDS):
                 self.answers[got[0]] += 1
             if want is None:

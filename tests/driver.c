@@ -2,15 +2,16 @@
 
    Reads batches of commands on standard input, makes the calls, and writes
    the results on standard output. It knows nothing of the library but
-   reamstork.h and the one sentence of document 01 on room: a store of c
-   cells takes 1,024 + 8 x c words, and words behind those are never touched.
+   reamstork.h and the one sentence of request P9 on room: a store of c cells
+   takes 8,192 + 8 x c words, and words behind those are never touched. Of words
+   that it did not start itself it is told how many they are.
 
    What it watches by itself, at every call:
    - guard words in front of and behind a store's words;
    - every word of a store against a copy, after each call that may not
      write and after each refused edit;
-   - the words behind the lent slice, and those behind 1,024 + 8 x c inside
-     it, after each accepted start or edit;
+   - the words behind the lent slice, and those behind the store inside it,
+     after each accepted start, edit or carrying;
    - the bytes of a packet, the ends of a rule and the records of a list, lent
      for reading.
    The words of an image are kept like a store's: every word of it is seen to
@@ -44,10 +45,10 @@ enum { STORES = 64, GUARD = 256, BLOCK = 65536, MOST_WORDS = 1 << 21 };
 enum { COMPARED_AT_ONCE = 1 << 14 };
 
 enum {
-  RESET = 0, MAKE = 1, LEND = 2, SET = 3, GET = 4, DIGEST = 5, SAME = 6, COPY = 7,
+  RESET = 0, MAKE = 1, LEND = 2, SET = 3, GET = 4, DIGEST = 5, SAME = 6, COPY = 7, HOLDS = 8,
   START = 16, START_WITH = 17, INSERT = 18, DELETE = 19, CHECK = 20, READ = 21,
   CELLS = 22, LOOKUP = 23, PACKET = 24, PREFIX = 25, SCAN = 26, RULE_AT = 27, DEAD = 28,
-  WORST = 29,
+  WORST = 29, CARRY = 30,
   TALLY = 32, CLEAR = 33, DIFFERENCE = 34, RECORDS = 35,
   IMAGE_WORDS = 40, FREEZE = 41, IMAGE_CHECK = 42, IMAGE_LOOKUP = 43, IMAGE_PACKET = 44,
   IMAGE_TALLY = 45, IMAGE_WORST = 46
@@ -66,7 +67,7 @@ enum {
 struct store {
   uint32_t *words, *copy, *front, *behind;
   size_t total, lent;
-  uint32_t c; /* as last started here; 0 when not known */
+  size_t size; /* the words of the store that they hold; 0 when not known */
   char *area;
   size_t area_size;
   int uncompared;
@@ -219,7 +220,7 @@ static void after_edit(struct store *s, uint32_t answer) {
     compare_from(s, 0, REFUSED_EDIT_WROTE);
     return;
   }
-  accepted(s, s->c ? REAMSTORK_WORDS(s->c) : s->lent);
+  accepted(s, s->size ? s->size : s->lent);
 }
 
 /* ---- commands that are no calls ---- */
@@ -241,13 +242,17 @@ static void housekeeping(uint32_t op) {
     if (s->lent > s->total) stop("more lent than there is");
     return;
   }
+  if (op == HOLDS) {
+    s->size = next();
+    return;
+  }
   if (op == SAME || op == COPY) {
     struct store *t = next_store();
     size_t n = next();
     if (n > s->total || n > t->total) stop("words that are not there");
     if (op == COPY) {
       if (n) memcpy(t->words, s->words, 4 * n), memcpy(t->copy, s->words, 4 * n);
-      t->c = s->c;
+      t->size = s->size;
       return;
     }
     size_t i = 0;
@@ -291,12 +296,12 @@ static void edit(uint32_t op) {
     return;
   }
   uint32_t number = next(), answer;
-  uint32_t c = s->c;
-  if (op != DELETE) s->c = number;
+  size_t size = s->size;
+  if (op != DELETE) s->size = REAMSTORK_WORDS((size_t)number);
   if (op == START) answer = reamstork_start(s->words, s->lent, number);
   else if (op == START_WITH) answer = reamstork_start_with(s->words, s->lent, number, next());
   else answer = reamstork_delete(s->words, s->lent, number);
-  if (answer) s->c = c;
+  if (answer) s->size = size;
   after_edit(s, answer);
 }
 
@@ -406,7 +411,22 @@ static void call_freeze(void) {
   after_reader(s);
   look_at_guards(image);
   if (answer) compare_from(image, 0, REFUSED_EDIT_WROTE);
-  else image->c = 0, accepted(image, total);
+  else image->size = 0, accepted(image, total);
+}
+
+/* The store that is carried is seen to as after a call that only reads it, the other one as after
+   a start. */
+static void call_carry(void) {
+  struct store *from = next_store(), *s = next_store();
+  uint32_t c = next();
+  if (from == s) stop("a store carried into itself");
+  compare_late(from);
+  compare_late(s);
+  uint32_t answer = reamstork_carry(from->words, from->lent, s->words, s->lent, c);
+  look_at_guards(from);
+  compare_from(from, 0, READER_WROTE);
+  if (!answer) s->size = REAMSTORK_WORDS((size_t)c);
+  after_edit(s, answer);
 }
 
 static void call_prefix(void) {
@@ -473,13 +493,14 @@ static void run_batch(void) {
   calls = faults = fault_command = fault_kind = fault_store = fault_position = command = 0;
   for (; at < batch_size; command++) {
     uint32_t op = next();
-    if (op <= COPY) housekeeping(op);
+    if (op <= HOLDS) housekeeping(op);
     else if (op >= START && op <= DELETE) edit(op);
     else if (op == PREFIX) call_prefix();
     else if (op == CLEAR) call_clear();
     else if (op == DIFFERENCE) call_difference();
     else if (op == RECORDS) call_records();
     else if (op == FREEZE) call_freeze();
+    else if (op == CARRY) call_carry();
     else if ((op >= CHECK && op <= WORST) || op == TALLY || (op >= IMAGE_WORDS && op <= IMAGE_WORST)) look(op);
     else stop("no such command");
   }

@@ -1,12 +1,13 @@
 """Random cases: edits, sizes that just fit, and histories."""
 
-from reference import LEAST_CELLS, MOST_RULES, Account, count_cells, words_needed
+from laid import laid
+from reference import KINDS, LARGE, LEAST_CELLS, SMALL, Account, count_cells, words_needed
 from store import expect, fresh
 from tables import World, values_near
 
 SIZES = (6, 7, 8, 9, 10, 12, 15, 18, 20, 25, 30, 33, 40, 53, 54, 64, 100, 128, 200, 256, 300, 500,
          777, 1000, 1024, 1500, 1920)
-LARGE = (2048, 4096, 5000, 8192, 16384, 32767, 32768, 40000, 65535, 65536)
+MANY = (2048, 4096, 5000, 8192, 16384, 32767, 32768, 40000, 65535, 65536)
 
 
 def one_edit(store, world, rng):
@@ -39,7 +40,7 @@ def edits(talk, rng, c=None, steps=None):
 
 def large(talk, rng):
     """The same in large stores, with rules that take many cells."""
-    c = rng.choice(LARGE)
+    c = rng.choice(MANY)
     world = World(rng, rng.choice((['wide'], ['corners'], ['model', 'types'], ['types'])))
     store = fresh(talk, rng, c)
     for step in range(rng.choice((8, 12, 30))):
@@ -51,14 +52,14 @@ def large(talk, rng):
 
 
 def crowd(talk, rng):
-    """Up to 64 rules and past that, then down again."""
+    """Up to 64 rules and past that, which in a small store get 5, then down again."""
     c = rng.choice((LEAST_CELLS, 18, 100, 500, 1920, 6000))
     world = World(rng, rng.choice((['line'], ['line', 'again'], ['types'], ['types', 'again'])))
     world.numbers = range(65535)
-    store = fresh(talk, rng, c)
+    store = fresh(talk, rng, c, kind=rng.choice((SMALL, SMALL, LARGE)))
     for step in range(110):
         store.insert(world.rule())
-        if len(store.account.rules) == MOST_RULES:
+        if len(store.account.rules) == store.kind.rules:
             store.insert(world.bad_rule(list(store.account.rules)))
         if step % 10 == 0:
             store.audit(rng)
@@ -68,7 +69,36 @@ def crowd(talk, rng):
         store.delete(number)
         if rng.random() < 0.15:
             store.audit(rng)
-    talk.same(store.id, fresh(talk, rng, c).id, words_needed(c))
+    talk.same(store.id, fresh(talk, rng, c, kind=store.kind).id, words_needed(c, store.kind))
+    talk.flush()
+
+
+def many(talk, rng):
+    """Hundreds of rules in a large store, as many as its cells take: more than a small one holds.
+    Then some go, and others come."""
+    c = rng.choice((3000, 8000, 30000))
+    world = World(rng, rng.choice((['line'], ['line', 'again'], ['types'], ['types', 'again'])))
+    rules = [world.rule(number) for number in rng.sample(range(65535), 512)]
+    plan = Account(c=c)
+    for count in (rng.choice((512, 200, 200, 200)), 100, 65, 20, 5, 0):
+        plan.rules = {rule.number: rule for rule in rules[:count]}
+        if count_cells(plan.table(), c) <= c:
+            break
+    store = fresh(talk, rng, c, kind=LARGE)
+    store.load(rules[:count])
+    store.audit(rng, 20, 6)
+    if count == 512:
+        expect(store.insert(world.rule(next(n for n in range(65535) if n not in plan.rules))) == 5,
+               'the reference and request P9')
+        talk.note('full tables of 512 rules')
+    for rule in rng.sample(rules[:count], min(count, 5)):
+        store.delete(rule.number)
+        store.insert(world.rule())
+    store.audit(rng, 20, 6)
+    right = talk.make(words_needed(c))
+    table = store.account.table()
+    talk.set(right, 0, laid(c, table[-1:] + table[:-1]))
+    talk.same(store.id, right, words_needed(c))
     talk.flush()
 
 
@@ -77,8 +107,7 @@ def fit(talk, rng):
     takes, in steps, to one below what the table after it takes (6), and at
     exactly that (taken)."""
     world = World(rng)
-    plan = Account()
-    plan.start(words_needed(3000), 3000)
+    plan = Account(c=3000)
     for _ in range(rng.randint(0, 12)):
         plan.insert(*world.rule())
     rule = next((r for r in (world.rule(n) for n in range(300, 340))
@@ -112,21 +141,21 @@ def histories(talk, rng):
     the same answers, reads, cells, and words where c is the same."""
     world = World(rng)
     action = world.action()
-    plan = Account()
     room = rng.choice((40, 300, 2000))
-    plan.start(words_needed(room), room)
+    plan = Account(c=room)
     for _ in range(rng.randint(0, 30)):
         plan.insert(*world.rule())
     target = plan.rules
     needed = count_cells(plan.table(), 65536)
     c = rng.choice((needed, needed + 1, needed + rng.randint(0, 50), room))
-    stores = [fresh(talk, rng, c, action) for _ in range(3)]
+    kind = rng.choice(KINDS)
+    stores = [fresh(talk, rng, c, action, kind) for _ in range(3)]
     stores.append(fresh(talk, rng, needed + rng.randint(0, 300), action))
     for store in stores:
         wander(store, world, rng, target)
         expect(store.account.rules == target, 'the plan went wrong')
     for store in stores[1:3]:
-        talk.same(stores[0].id, store.id, words_needed(c))
+        talk.same(stores[0].id, store.id, words_needed(c, kind))
     probes = [values_near(rng, plan.table()) for _ in range(15)]
     for store in stores:
         store.audit(rng, 2)

@@ -1,4 +1,4 @@
-/* What the header has beside the calls: the names of the fields, the texts of the answers, a rule that was read handed to a scan and to an insert, and a table listed and loaded again; its examples of packets that are refused; rules that never win; the worst packet of a table, and of its image; and the image.
+/* What the header has beside the calls: the names of the fields, the texts of the answers, a rule that was read handed to a scan and to an insert, and a table listed and loaded again; its examples of packets that are refused; rules that never win; the worst packet of a table, and of its image; the image; and small stores, and a table carried from one.
 
        face answers      a line for each answer, number and text
        face version      the version, and the same from its two numbers
@@ -12,6 +12,9 @@
 
 static uint32_t one[REAMSTORK_WORDS(100)], two[REAMSTORK_WORDS(100)], moved[REAMSTORK_WORDS(100)];
 static const size_t len = REAMSTORK_WORDS(100);
+
+/* Where a large store's rows begin and its cells, or an image's blocks. */
+enum { ROWS = 495, ROW = 15, CELLS = 8192 };
 
 static int rules(void) {
   /* a range of its own in each field; since it is narrow in the ports, 0 to 0 in portless */
@@ -91,11 +94,11 @@ static int rules(void) {
 
   /* what the check cannot see, and what it sees: an action, a number that leaves the numbers rising, an end */
   memcpy(two, one, sizeof one);
-  two[47 + 15 + 1] ^= 1;
+  two[ROWS + ROW + 1] ^= 1;
   SURE(reamstork_check(two, len) == REAMSTORK_DONE);
-  two[47 + 15] ^= 1;
+  two[ROWS + ROW] ^= 1;
   SURE(reamstork_check(two, len) == REAMSTORK_DONE);
-  two[47 + 15 + 2] ^= 1;
+  two[ROWS + ROW + 2] ^= 1;
   SURE(reamstork_check(two, len) == REAMSTORK_BAD_STORE);
   SURE(reamstork_rule_at(two, len, 1).answer == REAMSTORK_BAD_STORE);
 
@@ -248,9 +251,9 @@ static int worsts(void) {
   /* refused with zeros; no word is changed */
   memcpy(two, one, sizeof one);
   SURE(same_most(reamstork_worst(one, len - 1), REAMSTORK_BAD_STORE, 0, zeros));
-  one[1024] ^= 1;
+  one[CELLS] ^= 1;
   SURE(same_most(reamstork_worst(one, len), REAMSTORK_BAD_STORE, 0, zeros));
-  one[1024] ^= 1;
+  one[CELLS] ^= 1;
   SURE(same_most(reamstork_worst(one, len), REAMSTORK_DONE, 7, top));
   SURE(memcmp(one, two, sizeof one) == 0);
   return 0;
@@ -282,9 +285,9 @@ static int depths(void) {
   /* refused with zeros: a word more or less, a block damaged, a store */
   SURE(same_most(reamstork_image_worst(image, words - 1), REAMSTORK_BAD_STORE, 0, zeros));
   SURE(same_most(reamstork_image_worst(image, words + 1), REAMSTORK_BAD_STORE, 0, zeros));
-  image[1024] ^= 1;
+  image[CELLS] ^= 1;
   SURE(same_most(reamstork_image_worst(image, words), REAMSTORK_BAD_STORE, 0, zeros));
-  image[1024] ^= 1;
+  image[CELLS] ^= 1;
   SURE(same_most(reamstork_image_worst(image, words), REAMSTORK_DONE, 7, first));
   SURE(same_most(reamstork_image_worst(one, len), REAMSTORK_BAD_STORE, 0, zeros));
   return 0;
@@ -299,15 +302,15 @@ static int images(void) {
   static reamstork_tallies tallies, full;
 
   SURE(sizeof(reamstork_size) == 8 && offsetof(reamstork_size, answer) == 0 && offsetof(reamstork_size, words) == 4);
-  SURE(room == 2624 && REAMSTORK_IMAGE_WORDS_MOST(REAMSTORK_CELLS_MAX) == 1049600);
+  SURE(room == 9792 && REAMSTORK_IMAGE_WORDS_MOST(REAMSTORK_CELLS_MAX) == 1056768);
   SURE(reamstork_start_with(one, len, 100, 8) == REAMSTORK_DONE);
-  SURE(reamstork_image_words(one, len).answer == REAMSTORK_DONE && reamstork_image_words(one, len).words == 1024 + 16 * 6);
+  SURE(reamstork_image_words(one, len).answer == REAMSTORK_DONE && reamstork_image_words(one, len).words == 8192 + 16 * 6);
   SURE(reamstork_insert(one, len, 7, 70, low, high) == REAMSTORK_DONE);
   memcpy(two, one, sizeof one);
 
   /* 9, then 8; what is refused writes nothing, and neither does the store change */
   reamstork_size s = reamstork_image_words(one, len);
-  SURE(s.answer == REAMSTORK_DONE && s.words > 1024 && s.words % 16 == 0 && s.words <= REAMSTORK_IMAGE_WORDS_MOST(reamstork_cells(one, len).cells));
+  SURE(s.answer == REAMSTORK_DONE && s.words > 8192 && s.words % 16 == 0 && s.words <= REAMSTORK_IMAGE_WORDS_MOST(reamstork_cells(one, len).cells));
   memset(image, 0x5a, sizeof image);
   memcpy(copy, image, sizeof image);
   SURE(reamstork_freeze(one, len - 1, image, 0) == REAMSTORK_BAD_STORE && reamstork_freeze(one, len - 1, image, room) == REAMSTORK_BAD_STORE);
@@ -328,7 +331,7 @@ static int images(void) {
   SURE(same_found(reamstork_image_lookup(image, s.words, 15, 26, 37, 48, 59, 1), REAMSTORK_DONE, REAMSTORK_DEFAULT, 8, 6));
   SURE(same_found(reamstork_image_lookup(image, s.words, 10, 20, 17, 49, 50, 0), REAMSTORK_DONE, REAMSTORK_DEFAULT, 8, 6));
   SURE(same_found(reamstork_image_lookup(image, 0, 10, 20, 17, 40, 50, 2), REAMSTORK_BAD_VALUE, 0, 0, 0));
-  SURE(same_found(reamstork_image_lookup(image, 1023, 10, 20, 17, 40, 50, 0), REAMSTORK_BAD_STORE, 0, 0, 0));
+  SURE(same_found(reamstork_image_lookup(image, 8191, 10, 20, 17, 40, 50, 0), REAMSTORK_BAD_STORE, 0, 0, 0));
 
   /* by packet, with its refusals first; and counted */
   SURE(same_found(reamstork_image_lookup_packet(image, s.words, udp, 28), REAMSTORK_DONE, 7, 70, 6));
@@ -346,14 +349,103 @@ static int images(void) {
   memset(image, 0, sizeof image);
   SURE(reamstork_image_check(copy, s.words) == REAMSTORK_DONE);
   SURE(same_found(reamstork_image_lookup(copy, s.words, 10, 20, 17, 40, 50, 0), REAMSTORK_DONE, 7, 70, 6));
-  copy[47 + 15 + 1] ^= 1;
+  copy[ROWS + ROW + 1] ^= 1;
   SURE(reamstork_image_check(copy, s.words) == REAMSTORK_DONE);
-  copy[1024] ^= 1;
+  copy[CELLS] ^= 1;
   SURE(reamstork_image_check(copy, s.words) == REAMSTORK_BAD_STORE);
 
   /* after an edit there is another image, of the table as it is */
   SURE(reamstork_delete(one, len, 7) == REAMSTORK_DONE && reamstork_freeze(one, len, image, room) == REAMSTORK_DONE);
   SURE(same_found(reamstork_image_lookup(image, room, 10, 20, 17, 40, 50, 0), REAMSTORK_DONE, REAMSTORK_DEFAULT, 8, 6));
+  return 0;
+}
+
+/* A small store of c cells with the default alone, as an earlier version's start left it. */
+static void small(uint32_t *words, uint32_t c, uint32_t action) {
+  const uint32_t tops[REAMSTORK_FIELDS] = { REAMSTORK_TOP_ADDRESS, REAMSTORK_TOP_ADDRESS, REAMSTORK_TOP_PROTOCOL, REAMSTORK_TOP_PORT, REAMSTORK_TOP_PORT, REAMSTORK_TOP_PORTLESS };
+  memset(words, 0, 4 * REAMSTORK_SMALL_WORDS(c));
+  words[0] = c, words[2] = REAMSTORK_SMALL;
+  words[47] = REAMSTORK_DEFAULT, words[48] = action;
+  words[1022] = REAMSTORK_FIELDS;
+  for (uint32_t k = 0; k < c; k++) {
+    uint32_t *cell = words + REAMSTORK_SMALL_WORDS(k);
+    cell[1] = k < REAMSTORK_FIELDS ? c : k + 1;
+    if (k < REAMSTORK_FIELDS) words[50 + 2 * k] = cell[0] = tops[k], cell[2] = k + 1 < REAMSTORK_FIELDS ? k + 1 : 0;
+  }
+}
+
+/* Small stores are taken by every call, and their tables can be carried, as the header tells of it. */
+static int kinds(void) {
+  static uint32_t kept[REAMSTORK_SMALL_WORDS(100)], before[REAMSTORK_SMALL_WORDS(100)], image[REAMSTORK_IMAGE_WORDS_MOST(100)], other[REAMSTORK_IMAGE_WORDS_MOST(100)];
+  const size_t kept_len = REAMSTORK_SMALL_WORDS(100);
+  const uint32_t low[REAMSTORK_FIELDS] = { 10, 20, 30, 40, 50, 0 }, high[REAMSTORK_FIELDS] = { 15, 26, 37, 48, 59, 0 }, zeros[REAMSTORK_FIELDS] = { 0 };
+  const uint32_t tops[REAMSTORK_FIELDS] = { REAMSTORK_TOP_ADDRESS, REAMSTORK_TOP_ADDRESS, REAMSTORK_TOP_PROTOCOL, REAMSTORK_TOP_PORT, REAMSTORK_TOP_PORT, REAMSTORK_TOP_PORTLESS };
+  reamstork_size s, t;
+  uint32_t cells, n;
+
+  SURE(REAMSTORK_RULES_MAX == 512 && REAMSTORK_SMALL_RULES_MAX == 64 && REAMSTORK_PLACES == REAMSTORK_RULES_MAX + 1);
+  SURE(REAMSTORK_WORDS(1024) == 16384 && REAMSTORK_SMALL_WORDS(1920) == 16384 && REAMSTORK_WORDS(REAMSTORK_CELLS_MAX) == 532480);
+  SURE(sizeof(reamstork_tallies) == 12 * REAMSTORK_PLACES && offsetof(reamstork_tallies, packets) == 4 * REAMSTORK_PLACES && offsetof(reamstork_tallies, bytes) == 8 * REAMSTORK_PLACES);
+
+  /* a start makes a large store, and takes no words that are enough for a small one alone */
+  SURE(reamstork_start(one, len, 100) == REAMSTORK_DONE && one[2] == REAMSTORK_LARGE);
+  SURE(reamstork_start(kept, kept_len, 6) == REAMSTORK_BAD_SIZE);
+
+  /* 64 rules of a small store; the 65th gets 5 */
+  small(kept, 100, 8);
+  SURE(reamstork_check(kept, kept_len) == REAMSTORK_DONE && reamstork_cells(kept, kept_len).cells == REAMSTORK_CELLS_MIN);
+  SURE(reamstork_insert(kept, kept_len, 7, 70, low, high) == REAMSTORK_DONE);
+  for (n = 1; n < REAMSTORK_SMALL_RULES_MAX; n++)
+    SURE(reamstork_insert(kept, kept_len, 100 + n, 1, zeros, tops) == REAMSTORK_DONE);
+  SURE(reamstork_insert(kept, kept_len, 99, 1, zeros, tops) == REAMSTORK_TABLE_FULL);
+  SURE(reamstork_rule_at(kept, kept_len, 1).number == 7 && reamstork_rule_at(kept, kept_len, 65).answer == REAMSTORK_NO_SUCH_NUMBER);
+  cells = reamstork_cells(kept, kept_len).cells;
+
+  /* 9, then 8, then 6; what is refused writes nothing */
+  memcpy(before, kept, sizeof kept);
+  memset(one, 0x5a, sizeof one);
+  memcpy(two, one, sizeof one);
+  SURE(reamstork_carry(kept, kept_len - 1, one, len, 100) == REAMSTORK_BAD_STORE && reamstork_carry(kept, kept_len - 1, one, 0, 5) == REAMSTORK_BAD_STORE);
+  kept[2] = 1;
+  SURE(reamstork_check(kept, kept_len) == REAMSTORK_BAD_STORE && reamstork_carry(kept, kept_len, one, len, 100) == REAMSTORK_BAD_STORE);
+  kept[2] = REAMSTORK_LARGE;
+  SURE(reamstork_check(kept, kept_len) == REAMSTORK_BAD_STORE && reamstork_lookup(kept, kept_len, 10, 20, 30, 40, 50, 0).answer == REAMSTORK_BAD_STORE);
+  kept[2] = REAMSTORK_SMALL;
+  SURE(reamstork_carry(kept, kept_len, one, len, 5) == REAMSTORK_BAD_SIZE && reamstork_carry(kept, kept_len, one, len, 101) == REAMSTORK_BAD_SIZE);
+  SURE(reamstork_carry(kept, kept_len, one, len - 1, 100) == REAMSTORK_BAD_SIZE && reamstork_carry(kept, kept_len, one, REAMSTORK_SMALL_WORDS(6), 6) == REAMSTORK_BAD_SIZE);
+  SURE(reamstork_carry(kept, kept_len, one, len, cells - 1) == REAMSTORK_NO_ROOM && reamstork_carry(kept, kept_len, one, len, 6) == REAMSTORK_NO_ROOM);
+  SURE(memcmp(one, two, sizeof one) == 0 && memcmp(kept, before, sizeof kept) == 0);
+
+  /* done: as started and filled, and the words behind stay */
+  SURE(reamstork_carry(kept, kept_len, one, len, cells) == REAMSTORK_DONE && one[2] == REAMSTORK_LARGE);
+  SURE(memcmp(one + REAMSTORK_WORDS(cells), two + REAMSTORK_WORDS(cells), sizeof one - 4 * REAMSTORK_WORDS(cells)) == 0);
+  SURE(reamstork_start_with(moved, len, cells, 8) == REAMSTORK_DONE);
+  for (n = REAMSTORK_SMALL_RULES_MAX - 1; n > 0; n--)
+    SURE(reamstork_insert(moved, len, 100 + n, 1, zeros, tops) == REAMSTORK_DONE);
+  SURE(reamstork_insert(moved, len, 7, 70, low, high) == REAMSTORK_DONE);
+  SURE(memcmp(one, moved, 4 * REAMSTORK_WORDS(cells)) == 0 && memcmp(kept, before, sizeof kept) == 0);
+  SURE(reamstork_check(one, len) == REAMSTORK_DONE && reamstork_cells(one, len).cells == cells);
+  reamstork_found f = reamstork_lookup(kept, kept_len, 15, 26, 37, 48, 59, 0), g = reamstork_lookup(one, len, 15, 26, 37, 48, 59, 0);
+  SURE(f.answer == REAMSTORK_DONE && f.rule == 7 && same_found(g, f.answer, f.rule, f.action, f.reads));
+  f = reamstork_lookup(kept, kept_len, 16, 26, 37, 48, 59, 1), g = reamstork_lookup(one, len, 16, 26, 37, 48, 59, 1);
+  SURE(f.answer == REAMSTORK_DONE && f.rule == 101 && same_found(g, f.answer, f.rule, f.action, f.reads));
+
+  /* the same image but for the front */
+  s = reamstork_image_words(kept, kept_len), t = reamstork_image_words(one, len);
+  SURE(s.answer == REAMSTORK_DONE && t.answer == REAMSTORK_DONE && t.words - s.words == 8192 - 1024);
+  SURE(reamstork_freeze(kept, kept_len, image, s.words) == REAMSTORK_DONE && reamstork_freeze(one, len, other, t.words) == REAMSTORK_DONE);
+  SURE(image[2] == REAMSTORK_SMALL && other[2] == REAMSTORK_LARGE && memcmp(image + 1024, other + 8192, 4 * (s.words - 1024)) == 0);
+  SURE(reamstork_image_check(image, s.words) == REAMSTORK_DONE && reamstork_image_check(other, t.words) == REAMSTORK_DONE);
+  SURE(reamstork_image_lookup(image, s.words, 15, 26, 37, 48, 59, 0).rule == 7 && reamstork_image_lookup(other, t.words, 15, 26, 37, 48, 59, 0).rule == 7);
+
+  /* in the large store rules go on to 512, and it can be carried too, into more cells and back into fewer */
+  for (n = REAMSTORK_SMALL_RULES_MAX; n < REAMSTORK_RULES_MAX; n++)
+    SURE(reamstork_insert(one, len, 100 + n, 1, zeros, tops) == REAMSTORK_DONE);
+  SURE(reamstork_insert(one, len, 99, 1, zeros, tops) == REAMSTORK_TABLE_FULL && reamstork_rule_at(one, len, 512).number == 611);
+  SURE(reamstork_carry(one, len, two, len, 100) == REAMSTORK_DONE && two[0] == 100 && reamstork_carry(two, len, moved, len, cells) == REAMSTORK_DONE);
+  SURE(memcmp(one, moved, 4 * REAMSTORK_WORDS(cells)) == 0);
+  SURE(reamstork_insert(two, len, 99, 1, zeros, tops) == REAMSTORK_TABLE_FULL && reamstork_delete(two, len, 7) == REAMSTORK_DONE);
+  SURE(reamstork_cells(two, len).cells == REAMSTORK_CELLS_MIN && reamstork_cells(kept, kept_len).cells == cells);
   return 0;
 }
 
@@ -369,5 +461,5 @@ int main(int argc, char **argv) {
     printf("%s\n%d.%d\n", REAMSTORK_VERSION, REAMSTORK_VERSION_MAJOR, REAMSTORK_VERSION_MINOR);
     return 0;
   }
-  return rules() || packets() || lives() || worsts() || depths() || images();
+  return rules() || packets() || lives() || worsts() || depths() || images() || kinds();
 }

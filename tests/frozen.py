@@ -5,12 +5,13 @@ import itertools
 import drive
 from dead import NONE, WORD, corners, loaded, spanned
 from edits import wander
-from image import (BLOCK, DOWN, FRONT, KEYS, UNUSED, image, image_check, image_walk,
-                   image_walk_packet, table_in)
-from laid import laid
+from image import BLOCK, DOWN, KEYS, UNUSED, image, image_check, image_walk, image_walk_packet
+from laid import (FREE, HEAD, KIND, MARK, ROW, kind_of, laid, link_of, places_of, row_of,
+                  table_in)
 from portless import rule_of
-from reference import (BENCH_RULES, DEFAULT, MOST_CELLS, TOPS, Tally, count_cells,
-                       deepest_record, default_rule, levels, winner_and_blocks, words_needed)
+from reference import (BENCH_RULES, DEFAULT, KINDS, LARGE, MOST_CELLS, PLACES, SMALL, TOPS, Tally,
+                       count_cells, deepest_record, default_rule, levels,
+                       winner_and_blocks, words_needed)
 from store import HOWS, expect, fresh
 from tables import World, packet_of, random_packet, values_above, values_near
 from tallies import CLEAR, some_record
@@ -23,7 +24,7 @@ NO_WORST = (9, 0) + NONE
 # ---- what is asked of one image ----
 
 def words_of(account):
-    return image(tuple(account.table()))
+    return image(tuple(account.table()), account.kind)
 
 
 def same_words(talk, area, words):
@@ -55,8 +56,8 @@ def look(store, area, words, values):
     expect(want[:3] == store.account.lookup(values)[:3], 'the reference finds another rule')
     if want[0] == 0:
         expect(want == image_walk(words, values), 'the reference walks otherwise')
-        expect(6 <= want[3] <= 6 * levels(2 * len(store.account.rules) + 1) <= 18,
-               'the reference leaves the bounds')
+        expect(6 <= want[3] <= 6 * levels(2 * len(store.account.rules) + 1)
+               <= (18 if store.kind == SMALL else 24), 'the reference leaves the bounds')
     store.talk.image_lookup(area, values, want)
     return want[3]
 
@@ -97,8 +98,8 @@ def deepest(store, rng, area, words, others=8):
         expect(look(store, area, words, values) < blocks, 'the reference shows no least record')
     for values in itertools.chain(around(record), (values_near(rng, table) for _ in range(others))):
         expect(look(store, area, words, values) <= blocks, 'the reference shows no greatest count')
-    # field 6 has at most two ends, so that one of six fields takes one block
-    expect(6 <= blocks <= 16, 'the reference leaves the bounds')
+    # field 6 has at most two ends and takes one block; field 3 has at most 256, and takes three
+    expect(6 <= blocks <= (16 if store.kind == SMALL else 20), 'the reference leaves the bounds')
     tried = by_trying(table)
     if tried is not None:
         expect(tried == (blocks, record), 'the reference gives %s and trying %s for %s' % (
@@ -136,40 +137,44 @@ def ask(store, rng, area, words, lookups=20):
 
 def frozen_examples(talk, rng):
     """Images worked out by hand, their numbers written out here."""
-    # the default alone: a block for each field, and in each the top alone
-    store = loaded(talk, rng, [], 6)
-    area, words = freeze(store, rng)
-    by_hand = [0] * FRONT
-    by_hand[47:61] = (DEFAULT, 0, 0, WORD, 0, WORD, 0, 255, 0, 65535, 0, 65535, 0, 1)
-    for field, top in enumerate(TOPS):
-        by_hand += [top] + [UNUSED] * 7 + [DOWN + field + 1 if field < 5 else DOWN] + [0] * 7
-    expect(words == tuple(by_hand) and len(words) == 1120, 'the reference and the page')
-    for values in (NONE, TOPS):
-        talk.image_lookup(area, values, (0, DEFAULT, 0, 6))
-    ask(store, rng, area, words)
-    # document 01's bench table. One chain of field 1; below its lowest and its highest end five
-    # chains each, of the default; below the two others one of field 2, one of field 3, three of
-    # field 4, five of field 5 and five of field 6
-    store = loaded(talk, rng, BENCH_RULES, 54)
-    area, words = freeze(store, rng)
-    expect(len(words) == 1024 + 16 * (1 + 2 * 5 + 2 * 15), 'the reference and the page')
-    root = words[FRONT:FRONT + BLOCK]
-    expect(root == (167772159, 167772287, 167772415) + (WORD,) * 5 + (
-        DOWN + 1, DOWN + 6, DOWN + 21, DOWN + 36) + (0,) * 4, 'the reference and the page')
-    talk.image_lookup(area, (167772165, 3232235785, 17, 5004, 40000, 0), (0, 10, 2, 6))
-    talk.image_lookup(area, (167772165, 3232235785, 17, 5004, 40000, 1), (0, 20, 3, 6))
-    talk.image_lookup(area, (167772416, 0, 17, 5004, 40000, 0), (0, DEFAULT, 0, 6))
-    ask(store, rng, area, words)
-    talk.flush()
+    for kind in KINDS:
+        # the default alone: a block for each field, and in each the top alone
+        front, head = kind.front, HEAD[kind]
+        store = loaded(talk, rng, [], 6, kind=kind)
+        area, words = freeze(store, rng)
+        by_hand = [0] * front
+        by_hand[KIND] = MARK[kind]
+        by_hand[head:head + 14] = (DEFAULT, 0, 0, WORD, 0, WORD, 0, 255, 0, 65535, 0, 65535, 0, 1)
+        for field, top in enumerate(TOPS):
+            by_hand += [top] + [UNUSED] * 7 + [DOWN + field + 1 if field < 5 else DOWN] + [0] * 7
+        expect(words == tuple(by_hand) and len(words) == front + 96, 'the reference and the page')
+        for values in (NONE, TOPS):
+            talk.image_lookup(area, values, (0, DEFAULT, 0, 6))
+        ask(store, rng, area, words)
+        # document 01's bench table. One chain of field 1; below its lowest and its highest end
+        # five chains each, of the default; below the two others one of field 2, one of field 3,
+        # three of field 4, five of field 5 and five of field 6
+        store = loaded(talk, rng, BENCH_RULES, 54, kind=kind)
+        area, words = freeze(store, rng)
+        expect(len(words) == front + 16 * (1 + 2 * 5 + 2 * 15), 'the reference and the page')
+        root = words[front:front + BLOCK]
+        expect(root == (167772159, 167772287, 167772415) + (WORD,) * 5 + (
+            DOWN + 1, DOWN + 6, DOWN + 21, DOWN + 36) + (0,) * 4, 'the reference and the page')
+        talk.image_lookup(area, (167772165, 3232235785, 17, 5004, 40000, 0), (0, 10, 2, 6))
+        talk.image_lookup(area, (167772165, 3232235785, 17, 5004, 40000, 1), (0, 20, 3, 6))
+        talk.image_lookup(area, (167772416, 0, 17, 5004, 40000, 0), (0, DEFAULT, 0, 6))
+        ask(store, rng, area, words)
+        talk.flush()
+        talk.stores = 0
     # m ends in one field, in so many blocks on so many levels, and one block for each other chain
     for m, blocks, deep in ((2, 1, 1), (7, 1, 1), (8, 1, 1), (9, 3, 2), (16, 3, 2), (17, 4, 2),
                             (63, 9, 2), (64, 9, 2), (65, 12, 3), (72, 12, 3), (73, 13, 3),
                             (128, 19, 3), (129, 21, 3)):
-        for field in rng.sample(range(5), 2):
-            store = loaded(talk, rng, of_ends(m, field), 1920)
+        for field, kind in zip(rng.sample(range(5), 2), KINDS):
+            store = loaded(talk, rng, of_ends(m, field), 1920, kind=kind)
             area, words = freeze(store, rng)
             total = field + blocks + m * (5 - field)
-            expect(len(words) == 1024 + 16 * total, 'the reference and the page: %d ends' % m)
+            expect(len(words) == kind.front + 16 * total, 'the reference and the page: %d ends' % m)
             for end in range(min(2 * m, TOPS[field])):
                 values = tuple(end if f == field else 0 for f in range(6))
                 expect(look(store, area, words, values) == 5 + deep, 'the reference and the page')
@@ -179,20 +184,61 @@ def frozen_examples(talk, rng):
             talk.stores = 0
 
 
-def of_ends(m, field):
-    """Rules with m distinct ends in one field, the default's top among them."""
+def of_ends(m, field, most=64):
+    """At most so many rules with m distinct ends in one field, the default's top among them."""
     # a host next to the one before it has one end of its own, and one apart from it two
-    apart = max(m - 65, 0)
-    values = [2 * i + 1 for i in range(apart)] + [2 * apart + i for i in range(min(m - 1, 64) - apart)]
+    apart = max(m - 1 - most, 0)
+    values = [2 * i + 1 for i in range(apart)] + [2 * apart + i for i in range(min(m - 1, most) - apart)]
     spans = [(value, value) for value in values]
     return [spanned(i, field, low, high) for i, (low, high) in enumerate(spans)]
+
+
+def frozen_four_levels(talk, rng):
+    """Chains of 512 ends and more, which only large stores hold: three levels up to 8^3 ends, and
+    four above, up to the 1,025 of a full table."""
+    for m, blocks, deep, field in ((512, 73, 3, 4), (513, 65 + 9 + 2 + 1, 4, 0),
+                                   (521, 66 + 9 + 2 + 1, 4, 3), (1025, 129 + 17 + 3 + 1, 4, 1)):
+        store = fresh(talk, rng, 6200, 5, LARGE)
+        store.lay(LARGE, 6200, 5, of_ends(m, field, 512))
+        area, words = freeze(store, rng)
+        total = field + blocks + m * (5 - field)
+        expect(len(words) == 8192 + 16 * total, 'the reference and the page: %d ends' % m)
+        for end in {0, 1, 2, m, *rng.sample(range(2 * m), 30)}:
+            values = tuple(end if f == field else 0 for f in range(6))
+            expect(look(store, area, words, values) == 5 + deep, 'the reference and the page')
+        look(store, area, words, TOPS)
+        want = (0, 5 + deep) + NONE
+        expect(store.account.image_worst() == want, 'the reference and the page')
+        talk.image_worst(area, want)
+        talk.image_check(area, 0)
+        # one bit of a block: all of them are seen
+        for position in rng.sample(range(8192, len(words)), 20):
+            talk.set(area, position, [words[position] ^ 1 << rng.randrange(32)])
+            talk.image_check(area, 9)
+            talk.set(area, position, [words[position]])
+        talk.flush()
+        talk.stores = 0
+    # four levels in two fields of one lookup, as far as 65,536 cells go: many hosts, and below one
+    # of them many sources, each a rule; the other fields of one block
+    rules = [rule_of(i, i, (2 * i + 1,) * 2) for i in range(1, 257)]
+    rules += [rule_of(1000 + i, i, (1, 1), (2 * i + 1,) * 2) for i in range(256)]
+    store = fresh(talk, rng, 20000, 5, LARGE)
+    store.lay(LARGE, 20000, 5, rules)
+    area, words = freeze(store, rng)
+    want = (0, 4 + 4 + 4, 1, 0, 0, 0, 0, 0)
+    expect(store.account.image_worst() == want, 'the reference and the page')
+    talk.image_worst(area, want)
+    reads = {look(store, area, words, (destination, source, 0, 0, 0, 0))
+             for destination in (0, 1, 2, 3, 513, 1000) for source in (0, 1, 2, 511, 600, WORD)}
+    expect(reads == {9, 12}, 'the reference and the page: %s' % reads)
+    talk.flush()
 
 
 def frozen_deep(talk, rng):
     """Three levels in two fields of one lookup: 64 nested destinations, each with a source of
     its own."""
     rules = [rule_of(i, i, (1 + i, WORD - 1 - i), (3 * i + 1, 3 * i + 1)) for i in range(64)]
-    store = loaded(talk, rng, rules, MOST_CELLS)
+    store = loaded(talk, rng, rules, MOST_CELLS, kind=rng.choice(KINDS))
     area, words = freeze(store, rng)
     reads = {look(store, area, words, (destination, source, 0, 0, 0, 0))
              for destination in (0, 1, 20, 31, 32, 33, 64, 1000, WORD - 32, WORD)
@@ -256,18 +302,18 @@ def frozen_worst(talk, rng):
 
 def frozen_lengths(talk, rng):
     """The slice that a freeze is lent: exact, short by any number, longer; and 9 before 8."""
-    for rules in ([], BENCH_RULES, of_ends(65, 0)):
-        store = loaded(talk, rng, rules, 500)
-        words = words_of(store.account)
+    for kind, rules in itertools.product(KINDS, ([], BENCH_RULES, of_ends(65, 0))):
+        store = loaded(talk, rng, rules, 500, kind=kind)
+        front, words = kind.front, words_of(store.account)
         n = len(words)
         for how in HOWS[1:]:
             area = talk.make(n + 40, how, rng.getrandbits(32))
-            for length in (0, 1, 2, 3, 47, 1022, 1023, 1024, 1025, 1039, 1040, n - 17, n - 16,
-                           n - 15, n - 2, n - 1):
+            for length in (0, 1, 2, 3, 47, 1023, 1024, front - 2, front - 1, front, front + 1,
+                           front + 15, front + 16, n - 17, n - 16, n - 15, n - 2, n - 1):
                 talk.lend(area, length)
                 talk.freeze(store.id, area, n, 8)
                 # a slice short by nothing is refused before any word is looked at
-                talk.lend(store.id, words_needed(500) - 1)
+                talk.lend(store.id, words_needed(500, kind) - 1)
                 talk.freeze(store.id, area, n, 9)
                 talk.image_words(store.id, (9, 0))
                 talk.lend(store.id, store.length)
@@ -293,19 +339,23 @@ def frozen_lengths(talk, rng):
 
 def frozen_refusals(talk, rng):
     """9 over every store that fails the check, whatever the slice, and no word written."""
+    for kind in KINDS:
+        refusals_of(talk, rng, kind)
+
+
+def refusals_of(talk, rng, kind):
     rules = [rule_of(0, 1, (5, 9)), rule_of(300, 2, (6, 8), (1, WORD)), rule_of(65534, 3, (1, 2))]
-    store = loaded(talk, rng, rules, 200)
-    n = words_needed(200)
+    store = loaded(talk, rng, rules, 200, kind=kind)
+    n, front = words_needed(200, kind), kind.front
     talk.get(store.id, 0, n)
     words = list(talk.flush()[-1])
-    used = words[1022]
-    area, total = talk.make(3000, fill=rng.getrandbits(32)), len(words_of(store.account))
-    places = [*range(48), 49, 50, 60, 61, 64, 70, 76, 79, 91, 106, 107, 121, 122, 1000, 1021, 1022,
-              1023, *range(1024, 1040), *range(1024 + 8 * (used - 2), 1024 + 8 * (used + 2)),
-              *range(n - 8, n)]
+    used = words[link_of(kind, FREE)]
+    area, total = talk.make(front + 2000, fill=rng.getrandbits(32)), len(words_of(store.account))
+    places = [*range(48), *places_of(kind), *range(front, front + 16),
+              *range(front + 8 * (used - 2), front + 8 * (used + 2)), *range(n - 8, n)]
     for position in places:
         talk.set(store.id, position, [words[position] ^ 1 << rng.randrange(32)])
-        for length in (0, 3000):
+        for length in (0, front + 2000):
             talk.lend(area, length)
             talk.freeze(store.id, area, total, 9)
         talk.image_words(store.id, (9, 0))
@@ -326,16 +376,25 @@ def frozen_refusals(talk, rng):
 def frozen_pokes(talk, rng):
     """Every word of small images, chains of two and three levels among them, with other numbers:
     the image check sees all but what makes another image, as another action."""
-    for rules in ([], BENCH_RULES, [rule_of(5, 5, (3, 9), portless=(1, 1)), rule_of(9, 1)],
-                  of_ends(9, 4), of_ends(65, 4)):
-        words = image(tuple(list(rules) + [default_rule(1)]))
+    for kind, rules in ((SMALL, []), (LARGE, []), (SMALL, BENCH_RULES), (LARGE, BENCH_RULES),
+                        (SMALL, [rule_of(5, 5, (3, 9), portless=(1, 1)), rule_of(9, 1)]),
+                        (SMALL, of_ends(9, 4)), (SMALL, of_ends(65, 4)), (LARGE, of_ends(65, 4))):
+        front, head = kind.front, HEAD[kind]
+        words = image(tuple(list(rules) + [default_rule(1)]), kind)
         area = talk.make(len(words) + 16)
         talk.set(area, 0, words)
         talk.lend(area, len(words))
         passed = set()
         # of many rows some words: each makes another table
-        rows = range(49, FRONT) if len(rules) < 8 else rng.sample(range(49, FRONT), 60)
-        for position in (*range(49), *rows, *range(FRONT, len(words))):
+        rows = range(49, front)
+        if len(rules) >= 8:
+            rows = rng.sample(rows, 60)
+        elif kind == LARGE:
+            rows = {*rng.sample(rows, 30), *range(head - 2, head + 46), *range(front - 4, front)}
+        behind = range(front, len(words))
+        if kind == LARGE:
+            behind = rng.sample(behind, min(len(behind), 80))
+        for position in (*range(49), *rows, *behind):
             old = words[position]
             for new in {old ^ 1, old ^ 1 << rng.randrange(32), rng.choice((0, WORD, DOWN, old + 1))}:
                 changed = list(words)
@@ -346,12 +405,13 @@ def frozen_pokes(talk, rng):
             talk.set(area, position, [old])
         # numbers and actions; an end of a rule alone where a lesser one holds what comes or goes
         parts = range(2) if len(rules) < 3 else range(14)
-        expect(passed <= {47 + 15 * row + part for row in range(len(rules) + 1) for part in parts},
+        expect(passed <= {row_of(kind, row) + part for row in range(len(rules) + 1) for part in parts},
                'the reference lets words pass: %s' % passed)
-        expect(48 in passed, 'the reference sees an action')
+        expect(head + 1 in passed or len(rules) >= 8, 'the reference sees an action')
         talk.image_check(area, 0)
         # cut and lengthened
-        for length in [0, 1, 2, 3, 1023, 1024, 1040, *range(len(words) - 17, len(words) + 17)]:
+        for length in [0, 1, 2, 3, 1023, front - 1, front, front + 16,
+                       *range(len(words) - 17, len(words) + 17)]:
             if length != len(words):
                 talk.lend(area, length)
                 talk.image_check(area, 9)
@@ -377,8 +437,9 @@ def frozen_most(talk, rng):
     more = most[:-2] + [most[-2]._replace(high=most[-2].high[:5] + (0,)), most[-1]]
     expect(count_cells(more, 2 * MOST_CELLS) == MOST_CELLS + 1, 'the reference and the page')
     far = nested(26, 1000, 100, 3) + [default_rule(3)]
-    for table, want in ((most, 0), (more, 9), (far, 9)):
-        words = image(tuple(table))
+    for kind, table, want in ((SMALL, most, 0), (LARGE, most, 0), (SMALL, more, 9), (LARGE, more, 9),
+                              (SMALL, far, 9)):
+        words = image(tuple(table), kind)
         area = talk.make(len(words), drive.END_AT_WALL)
         talk.set(area, 0, words)
         expect(over_check(talk, area, words) == want, 'the reference and the page')
@@ -386,9 +447,9 @@ def frozen_most(talk, rng):
         for values in [(1100, 1100, 100, 0, 0, 0)] + [values_near(rng, table) for _ in range(10)]:
             talk.image_lookup(area, values, image_walk(words, values))
         if want == 0:
-            store = fresh(talk, rng, MOST_CELLS, 3)
+            store = fresh(talk, rng, MOST_CELLS, 3, kind)
             store.account.rules = {rule.number: rule for rule in rules}
-            talk.set(store.id, 0, laid(MOST_CELLS, [table[-1]] + sorted(rules)))
+            talk.set(store.id, 0, laid(MOST_CELLS, [table[-1]] + sorted(rules), kind))
             talk.check(store.id, 0)
             talk.image_words(store.id, (0, len(words)))
             frozen = talk.make(len(words), drive.END_AT_WALL)
@@ -403,12 +464,18 @@ def frozen_most(talk, rng):
 
 def frozen_orders(talk, rng):
     """11, and 7, 14, 9, 13: in these orders, over images and over words that are none."""
-    store = loaded(talk, rng, [rule_of(7, 9)], 6)
-    n = 1120
+    for kind in KINDS:
+        orders_of(talk, rng, kind)
+        talk.stores = 0
+
+
+def orders_of(talk, rng, kind):
+    store = loaded(talk, rng, [rule_of(7, 9)], 6, kind=kind)
+    front, n = kind.front, kind.front + 96
     area, words = freeze(store, rng, how=drive.END_AT_WALL)
     udp = packet_of((1, 2, 17, 3, 4))
-    full = (0,) * 195
-    for length in [0, 1, 2, 3, 1022, 1023, 1024, *range(1024, n + 1)]:
+    full = (0,) * (3 * PLACES)
+    for length in [0, 1, 2, 3, 1023, 1024, front - 2, front - 1, *range(front, n + 1)]:
         talk.lend(area, length)
         want = (0, 7, 9, 6) if length == n else REFUSED
         talk.image_lookup(area, (1, 2, 17, 3, 4, 0), want)
@@ -425,8 +492,11 @@ def frozen_orders(talk, rng):
     talk.flush()
     # word 2 is looked at, word 0 is not
     talk.lend(area, n)
-    for position, wrong, want in ((2, 1, REFUSED), (2, WORD, REFUSED), (0, 6, (0, 7, 9, 6)),
+    for position, wrong, want in ((2, 1, REFUSED), (2, WORD, REFUSED), (2, 2, REFUSED), (2, 3, REFUSED),
+                                  (2, 5, REFUSED), (2, 8, REFUSED), (2, 2 ** 31 + 4, REFUSED),
+                                  (2, 4 - MARK[kind], REFUSED), (0, 6, (0, 7, 9, 6)),
                                   (0, WORD, (0, 7, 9, 6)), (1, 0, REFUSED), (1, 65, (0, 7, 9, 6)),
+                                  (1, 513, (0, 7, 9, 6)),
                                   (1, WORD, (0, 7, 9, 6)), (3, 1, (0, 7, 9, 6))):
         talk.set(area, position, [wrong])
         talk.image_lookup(area, NONE, want)
@@ -435,17 +505,18 @@ def frozen_orders(talk, rng):
         talk.image_check(area, 9)
         talk.set(area, position, [words[position]])
     # where a row begins: the last field's link, at and behind the last rule's row, and between
-    link = FRONT + 5 * BLOCK + KEYS
+    link, last = front + 5 * BLOCK + KEYS, ROW * kind.rules
     # 15 times the second last number of rules is 14 where it is cut to 32 bits
-    for n_rules in (0, 1, 2, 63, 64, 65, 286331154, WORD):
-        for row in [0, 1, 14, 15, 16, 30, 945, 959, 960, 961, 974, 975, 990, 2 ** 31 - 1,
+    for n_rules in (0, 1, 2, 63, 64, 65, 511, 512, 513, 286331154, WORD):
+        for row in [0, 1, 14, 15, 16, 30, 945, 959, 960, 961, 974, 975, 990, last - 15, last - 1,
+                    last, last + 1, last + 14, last + 15, last + 30, 2 ** 31 - 1,
                     *(2 ** bit for bit in range(10, 31)), *(15 * 2 ** bit for bit in range(7, 27))]:
             changed = list(words)
             changed[1], changed[link] = n_rules, DOWN + row
             talk.set(area, 1, [n_rules])
             talk.set(area, link, [DOWN + row])
             want = image_walk(changed, NONE)
-            expect(want[0] == (9 if row % 15 or row > 960 or row > 15 * n_rules else 0),
+            expect(want[0] == (9 if row % 15 or row > last or row > 15 * n_rules else 0),
                    'the reference and the page')
             talk.image_lookup(area, NONE, want)
     talk.flush()
@@ -454,8 +525,15 @@ def frozen_orders(talk, rng):
 def frozen_cycles(talk, rng):
     """Links that lead round: 8 blocks of one field are read, and no ninth; a link down after the
     eighth is taken, in each field, so that 48 blocks are read."""
-    area = talk.make(FRONT + BLOCK * 60, drive.END_AT_WALL)
-    front = [0, 0, 0] + [0] * 44 + [77, 78] + [0] * (FRONT - 49)
+    for kind in KINDS:
+        cycles_of(talk, kind)
+        talk.stores = 0
+
+
+def cycles_of(talk, kind):
+    area = talk.make(kind.front + BLOCK * 60, drive.END_AT_WALL)
+    front = [0, 0, MARK[kind]] + [0] * (HEAD[kind] - 3) + [77, 78]
+    front += [0] * (kind.front - len(front))
     ends = [WORD] * KEYS
 
     def walks(links, want):
@@ -493,7 +571,7 @@ def frozen_cycles(talk, rng):
     words = front + [DOWN] * (3 * BLOCK)
     talk.set(area, 0, words)
     for blocks in (3, 2, 1):
-        talk.lend(area, FRONT + BLOCK * blocks)
+        talk.lend(area, kind.front + BLOCK * blocks)
         for destination, want in ((DOWN, (0, 77, 78, 6)), (DOWN + 1, REFUSED), (WORD, REFUSED)):
             talk.image_lookup(area, (destination, 0, 0, 0, 0, 0), want)
             talk.image_lookup(area, (0, destination, 0, 0, 0, 0), want)
@@ -523,7 +601,7 @@ def frozen_worlds(talk, rng):
         talk.image_check(longer, 9)
         look(store, longer, words, values_near(rng, store.account.table()))
         short = talk.make(len(words), rng.choice(HOWS), rng.getrandbits(32))
-        talk.lend(short, rng.choice((len(words) - 1, len(words) - 16, 1024, 0,
+        talk.lend(short, rng.choice((len(words) - 1, len(words) - 16, store.kind.front, 0,
                                      rng.randrange(len(words)))))
         talk.freeze(store.id, short, len(words), 8)
         talk.check(store.id, 0)
@@ -533,7 +611,7 @@ def frozen_worlds(talk, rng):
 
 def worst_of(words):
     """What the call says of the words of an image that passes: by the table that they hold."""
-    blocks, record = deepest_record(table_in(tuple(words[:FRONT])))
+    blocks, record = deepest_record(table_in(tuple(words[:kind_of(words).front])))
     return (0, blocks) + record
 
 
@@ -546,11 +624,12 @@ def over_check(talk, area, words):
     return want
 
 
-def some_damage(talk, rng, area, words):
+def some_damage(talk, rng, area, words, count=12):
     """Words of an image here and there, and its length: 9, or another image."""
-    for _ in range(12):
-        position = rng.choice((rng.randrange(len(words)), rng.randrange(FRONT, len(words)),
-                               rng.randrange(1100)))
+    front, head = kind_of(words).front, HEAD[kind_of(words)]
+    for _ in range(count):
+        position = rng.choice((rng.randrange(len(words)), rng.randrange(front, len(words)),
+                               rng.randrange(head, head + 600), rng.randrange(60)))
         changed = list(words)
         changed[position] ^= 1 << rng.randrange(32)
         talk.set(area, position, [changed[position]])
@@ -575,7 +654,7 @@ def frozen_alike(talk, rng):
     area, words = freeze(plan, rng)
     needed = count_cells(plan.account.table(), 65536)
     for c in (needed, needed + rng.randint(1, 200)):
-        store = fresh(talk, rng, c, action)
+        store = fresh(talk, rng, c, action, plan.kind)
         wander(store, world, rng, rules)
         expect(store.account.rules == rules, 'the plan went wrong')
         talk.same(freeze(store, rng)[0], area, len(words))
@@ -595,7 +674,9 @@ def frozen_hostile(talk, rng):
         words = damaged(rng, good)
         lent = len(words)
         if rng.random() < 0.15:
-            lent = rng.choice((lent - 1, lent - 16, rng.randrange(lent + 1), 1023, 1024, 1040, 0))
+            front = store.kind.front
+            lent = rng.choice((lent - 1, lent - 16, rng.randrange(lent + 1), 1023, front - 1, front,
+                               front + 16, 0))
         over_any(talk, rng, area, words[:lent], table)
         talk.note('images damaged')
     talk.flush()
@@ -604,35 +685,36 @@ def frozen_hostile(talk, rng):
 def damaged(rng, words):
     """A copy of an image's words with some changed: links to other blocks, to themselves, with
     and without their mark; ends out of order; the front; blocks swapped; a column rewritten."""
-    words = list(words)
-    blocks = (len(words) - FRONT) // BLOCK
-    used = [i for i in range(FRONT, len(words)) if words[i] not in (0, UNUSED)]
-    links = [i for i in used if (i - FRONT) % BLOCK >= KEYS]
-    kind = rng.randrange(10)
-    if kind < 4:
+    words, kind = list(words), kind_of(words)
+    front, head = kind.front, HEAD[kind]
+    blocks = (len(words) - front) // BLOCK
+    used = [i for i in range(front, len(words)) if words[i] not in (0, UNUSED)]
+    links = [i for i in used if (i - front) % BLOCK >= KEYS]
+    how = rng.randrange(10)
+    if how < 4:
         for position in rng.sample(links, min(len(links), rng.choice((1, 1, 2, 5, 40)))):
-            other = rng.choice((rng.randrange(blocks), (position - FRONT) // BLOCK, blocks,
-                                blocks - 1, rng.choice(words), 15 * rng.randrange(66),
+            other = rng.choice((rng.randrange(blocks), (position - front) // BLOCK, blocks,
+                                blocks - 1, rng.choice(words), 15 * rng.randrange(kind.rules + 2),
                                 rng.getrandbits(31), words[rng.choice(links)]))
             words[position] = (other ^ rng.choice((0, DOWN))) % 2 ** 32
-    elif kind < 6:
+    elif how < 6:
         for position in rng.sample(used, min(len(used), rng.choice((1, 2, 10)))):
             words[position] = rng.choice((0, WORD, words[position] ^ 1 << rng.randrange(32),
                                           words[position] + 1, rng.getrandbits(32))) % 2 ** 32
-    elif kind == 6:
-        position = rng.choice((0, 1, 1, 2, 3, rng.randrange(47), rng.randrange(47, 1024)))
-        words[position] = rng.choice((0, 1, 2, 64, 65, WORD, rng.getrandbits(32)))
-    elif kind == 7:
+    elif how == 6:
+        position = rng.choice((0, 1, 1, KIND, KIND, 3, rng.randrange(head), rng.randrange(head, front)))
+        words[position] = rng.choice((0, 1, 2, 4, 64, 65, 512, 513, WORD, rng.getrandbits(32)))
+    elif how == 7:
         for _ in range(rng.choice((1, 3))):
-            a, b = (FRONT + BLOCK * rng.randrange(blocks) for _ in range(2))
+            a, b = (front + BLOCK * rng.randrange(blocks) for _ in range(2))
             words[a:a + BLOCK], words[b:b + BLOCK] = words[b:b + BLOCK], words[a:a + BLOCK]
-    elif kind == 8:
+    elif how == 8:
         supply = rng.choice((lambda b: b, lambda b: (b + 1) % blocks, lambda b: DOWN + b,
                              lambda b: DOWN + (b + 1) % blocks, lambda b: rng.randrange(blocks),
                              lambda b: rng.choice((0, DOWN)) + rng.randrange(blocks)))
         for b, place in itertools.product(range(blocks), range(KEYS)):
             if rng.random() < 0.5:
-                words[FRONT + BLOCK * b + KEYS + place] = supply(b)
+                words[front + BLOCK * b + KEYS + place] = supply(b)
     else:
         words += [rng.choice((0, WORD, rng.getrandbits(32))) for _ in range(rng.choice((1, 16, 17)))]
     return words
@@ -658,9 +740,10 @@ def frozen_mazes(talk, rng):
     lost late."""
     table = [World(rng).rule() for _ in range(5)]
     for _ in range(20):
-        blocks = rng.choice((0, 1, 2, 6, 8, 20, 50))
-        words = [rng.choice((0, 0, 1, rng.getrandbits(32))) for _ in range(FRONT)]
-        words[1], words[2] = rng.choice((0, 1, 3, 64, 65, WORD)), rng.choice((0,) * 9 + (1,))
+        blocks, kind = rng.choice((0, 1, 2, 6, 8, 20, 50)), rng.choice(KINDS)
+        words = [rng.choice((0, 0, 1, rng.getrandbits(32))) for _ in range(kind.front)]
+        words[1] = rng.choice((0, 1, 3, 64, 65, 512, 513, WORD))
+        words[KIND] = rng.choice((MARK[kind],) * 9 + (1,))
         onward = rng.choice((0.05, 0.2, 0.5, 0.85))
         for b in range(blocks):
             words += [rng.choice((0, 1, 255, 65535, WORD, WORD, WORD, rng.choice(
@@ -670,7 +753,7 @@ def frozen_mazes(talk, rng):
                     link = rng.choice((b, (b + 1) % blocks, rng.randrange(blocks)))
                 else:
                     link = DOWN + rng.choice((rng.randrange(blocks),) * 3 + (
-                        15 * rng.randrange(66), 0, 15, rng.getrandbits(31), blocks))
+                        15 * rng.randrange(kind.rules + 2), 0, 15, rng.getrandbits(31), blocks))
                 words.append(link)
         words += [WORD] * rng.choice((0, 0, 1, 15))
         area = talk.make(len(words), drive.END_AT_WALL)

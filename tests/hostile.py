@@ -2,65 +2,75 @@
 
 from drive import Disagreement
 from edits import one_edit
-from reference import (DEFAULT, LEAST_CELLS, MOST_RULES, TOPS, Account, Rule, default_rule,
+from laid import BEGIN, HEAD, KIND, MARK, ROW, account_in, kind_of, link_of
+from reference import (DEFAULT, KINDS, LEAST_CELLS, SMALL, TOPS, Account, Rule, default_rule,
                        read_header, words_needed)
 from store import HOWS, Store, expect, fresh
 from tables import World, random_packet, values_above, values_near
 from walk import walk
 
 
-def other_value(rng, words, c, position):
+def other_value(rng, words, c, position, kind):
     old = words[position]
-    column = 1024 + (position % 8) + 8 * rng.randrange(c)
+    column = kind.front + (position % 8) + 8 * rng.randrange(c)
     return rng.choice((
         0, 1, 2, old + 1, old - 1, old ^ 1 << rng.randrange(32), rng.choice(words), words[column],
-        words[column], rng.randrange(c), rng.randrange(c), c - 1, c, c + 1, 63, 64, 65, 255, 256,
-        65534, 65535, 65536, 2 ** 32 - 1, rng.getrandbits(32), position // 8, position)) % 2 ** 32
+        words[column], rng.randrange(c), rng.randrange(c), c - 1, c, c + 1, 4, 63, 64, 65, 255, 256,
+        511, 512, 513, 65534, 65535, 65536, 2 ** 32 - 1, rng.getrandbits(32), position // 8,
+        position)) % 2 ** 32
 
 
-def some_position(rng, words, c, used):
-    kind = rng.randrange(6)
-    if kind == 0:
+def some_position(rng, words, c, used, kind):
+    front = kind.front
+    part = rng.randrange(7)
+    if part == 0:
         return rng.choice(used)
-    if kind == 1:
-        return rng.randrange(1024)
-    if kind == 2:
-        return rng.choice([i for i in used if i < 1024])
-    if kind == 3:
-        return 1024 + 8 * rng.randrange(min(c, 40)) + rng.randrange(8)
-    if kind == 4:
-        return 1024 + 8 * rng.randrange(c) + rng.randrange(8)
+    if part == 1:
+        return rng.randrange(front)
+    if part == 2:
+        return rng.choice([i for i in used if i < front])
+    if part == 3:
+        return front + 8 * rng.randrange(min(c, 40)) + rng.randrange(8)
+    if part == 4:
+        return front + 8 * rng.randrange(c) + rng.randrange(8)
+    if part == 5:
+        # the head and the first rows, and the links
+        return rng.choice((rng.randrange(HEAD[kind] + 60), front - 1, front - 2))
     return rng.randrange(min(60, len(words)))
 
 
-def damaged(rng, words, c):
+def damaged(rng, words, c, kind):
     """A copy of the words with a few changed, swapped, moved, or a whole
     column of the cells rewritten, so that links loop, cross or share."""
     words = list(words)
     used = [i for i, word in enumerate(words) if word]
-    kind = rng.randrange(12)
-    if kind < 7:
+    front, how = kind.front, rng.randrange(13)
+    if how < 7:
         for _ in range(rng.choice((1, 1, 1, 1, 2, 3))):
-            position = some_position(rng, words, c, used)
-            words[position] = other_value(rng, words, c, position)
-    elif kind < 9:
+            position = some_position(rng, words, c, used, kind)
+            words[position] = other_value(rng, words, c, position, kind)
+    elif how < 9:
         size = rng.choice((1, 1, 2, 3, 8, 8, 12, 14, 15, 16))
-        a, b = (min(some_position(rng, words, c, used), len(words) - size) for _ in range(2))
-        if size == 8 and a >= 1024 and b >= 1024:
+        a, b = (min(some_position(rng, words, c, used, kind), len(words) - size) for _ in range(2))
+        if size == 8 and a >= front and b >= front:
             a, b = a // 8 * 8, b // 8 * 8
         piece = words[a:a + size]
-        if kind == 7:
+        if how == 7:
             words[a:a + size] = words[b:b + size]
         words[b:b + size] = piece
-    elif kind < 11:
+    elif how < 11:
         for column in rng.sample(range(8), rng.choice((1, 1, 2))):
             rewrite = rng.choice((
                 lambda k: k, lambda k: (k + 1) % c, lambda k: k - 1 if k else 0,
                 lambda k, v=rng.randrange(c): v, lambda k: rng.randrange(c),
                 lambda k, v=rng.choice((0, c, 2 ** 32 - 1)): v, lambda k: k ^ 1))
             for k in range(c):
-                if kind == 9 or rng.random() < 0.3:
-                    words[1024 + 8 * k + column] = rewrite(k)
+                if how == 9 or rng.random() < 0.3:
+                    words[front + 8 * k + column] = rewrite(k)
+    elif how < 12:
+        # the kind that it names: the other one, or none
+        words[KIND] = rng.choice((0, 4, 4 - MARK[kind], 1, 2, 3, 5, 8, 1 << rng.randrange(32),
+                                  rng.getrandbits(32)))
     else:
         position = rng.randrange(len(words))
         words[position:] = [rng.choice((0, 1, rng.randrange(c), rng.getrandbits(32)))
@@ -76,7 +86,7 @@ def question(talk, rng, store, lent, table):
     talk.cells(store)
     for number in (DEFAULT, rng.choice(table).number, 65536, 3):
         talk.read(store, number)
-    for place in (1, rng.randint(0, MOST_RULES + 1)):
+    for place in (1, rng.choice((rng.randint(0, 65), rng.randint(0, 513)))):
         talk.rule_at(store, place)
     for number in (DEFAULT, rng.choice(table).number, 65536):
         talk.dead(store, number)
@@ -104,6 +114,9 @@ def judge(results, asked, lent):
     lookups = results[13:13 + len(asked)]
     expect(check in ((0,), (9,)), 'the check gave %s' % (check,))
     passed = check == (0,)
+    if len(lent) < 60000:
+        expect(passed == (account_in(lent) is not None),
+               'the check gave %s, and the layout says otherwise' % (check,))
     if not passed:
         expect(cells == (9, 0), 'cells gave %s where the check gives 9' % (cells,))
         for read in reads:
@@ -114,13 +127,13 @@ def judge(results, asked, lent):
         expect(worst == (9,) + (0,) * 7, 'worst gave %s where the check gives 9' % (worst,))
         expect(size == (9, 0), 'image_words gave %s where the check gives 9' % (size,))
     else:
-        expect(size[0] == 0 and 6 <= (size[1] - 1024) / 16 <= cells[1],
+        expect(size[0] == 0 and 6 <= (size[1] - kind_of(lent).front) / 16 <= cells[1],
                'image_words gave %s in a store that passes' % (size,))
         expect(lives[0][0] == 0 and lives[1][0] in (0, 4) and lives[2] == (1,) + (0,) * 7,
                'dead gave %s in a store that passes' % (lives,))
         expect(worst[0] == 0 and walk(lent, worst[2:])[::3] == worst[:2],
                'worst gave %s in a store that passes' % (worst,))
-    most = len(TOPS) * max((len(lent) - 1024) // 8, 0)
+    most = len(TOPS) * max((len(lent) - SMALL.front) // 8, 0)
     for (answer, values), got in zip(asked, lookups):
         if answer:
             expect(got == (answer, 0, 0, 0), 'a packet that gets %d gave %s' % (answer, got))
@@ -135,26 +148,30 @@ def judge(results, asked, lent):
 
 
 def hostile_edits(talk, rng, store, world, table, want):
-    """Edits over a store that fails the check, and a freeze of it: 9, and no word changed."""
+    """Edits over a store that fails the check, a freeze of it and its carrying: 9, and no word
+    changed."""
     talk.insert(store, world.rule(), want)
     talk.insert(store, world.bad_rule([rule.number for rule in table]), want)
     talk.delete(store, rng.choice(table).number, want)
     talk.delete(store, rng.choice((65535, 65536, rng.randrange(65535))), want)
     talk.freeze(store, talk.make(rng.choice((0, 1120, 3000)), rng.choice(HOWS)), 0, want)
     talk.stores -= 1
+    talk.carry(store, talk.make(rng.choice((0, 1120, 8240, 9000)), rng.choice(HOWS)),
+               rng.choice((5, 6, 40, 65537)), want)
+    talk.stores -= 1
 
 
 def account_of(talk, rng, store, c, words):
     """The table that `read` gives, over every number that stands anywhere in
-    the words; in a large store, in its first words and some others. A rule
+    the words; in a store of many cells, in its front and some others. A rule
     missed would show in the count of cells."""
-    if len(words) > 4000:
-        words = words[:1024] + rng.sample(words, 300)
+    kind = kind_of(words)
+    if len(words) > kind.front + 3000:
+        words = words[:kind.front] + rng.sample(words, 300)
     candidates = sorted({word for word in words if word <= 65535} | {DEFAULT})
     for number in candidates:
         talk.read(store, number)
-    account = Account()
-    account.c = c
+    account = Account(kind, c)
     for number, got in zip(candidates, talk.flush()):
         expect(got[0] in (0, 4), 'read of %d gave %s in a store that passes' % (number, got))
         if got[0] == 0:
@@ -165,7 +182,7 @@ def account_of(talk, rng, store, c, words):
             else:
                 account.rules[number] = rule
     expect(account.default == default_rule(account.default.action), 'the default is not full')
-    expect(len(account.rules) <= MOST_RULES, 'more than 64 rules pass the check')
+    expect(len(account.rules) <= kind.rules, 'more rules than the limit pass the check')
     return account
 
 
@@ -176,7 +193,7 @@ def hostile(talk, rng, c=None, rounds=40):
     good = fresh(talk, rng, c, rng.choice((None, 77)))
     for _ in range(rng.randint(0, 12)):
         good.insert(world.rule())
-    n, length = words_needed(c), good.length
+    kind, n, length = good.kind, words_needed(c, good.kind), good.length
     talk.get(good.id, 0, length)
     words = list(talk.flush()[-1])
     table = good.account.table()
@@ -184,10 +201,11 @@ def hostile(talk, rng, c=None, rounds=40):
     talk.copy(good.id, target.id, n)
     plans = []
     for _ in range(rounds):
-        changed = damaged(rng, words[:n], c) + words[n:]
+        changed = damaged(rng, words[:n], c, kind) + words[n:]
         lent = length
         if rng.random() < 0.1:
-            lent = rng.choice((rng.randrange(length + 1), n - 1, 0, 1, 1023, 1024, 1071))
+            lent = min(length, rng.choice((rng.randrange(length + 1), n - 1, 0, 1, 1023, 1024, 1071,
+                                           8191, 8192, 8239)))
         plans.append((changed, lent))
     for changed, lent in plans:
         talk.set(target.id, 0, changed)
@@ -207,11 +225,18 @@ def hostile(talk, rng, c=None, rounds=40):
             continue
         talk.note('passed the check still')
         target.account = account_of(talk, rng, target.id, c, changed)
-        again = fresh(talk, rng, c, target.account.default.action)
+        again = fresh(talk, rng, c, target.account.default.action, target.kind)
         for rule in target.account.rules.values():
             again.insert(rule)
         expect(again.account.rules == target.account.rules, 'a table that passes has no room')
         talk.same(target.id, again.id, n)
+        # the table that passes can be carried, into as many cells as it takes and into fewer
+        into = target.account.cells()[1] + rng.choice((-1, 0, 0, 50))
+        carried = Store(talk, words_needed(into) + rng.choice((0, 9)), rng.choice(HOWS),
+                        rng.getrandbits(32))
+        if carried.carry(target, into) == 0:
+            carried.audit(rng)
+        talk.stores -= 1
         for _ in range(5):
             target.audit(rng)
             one_edit(target, world, rng)
@@ -232,15 +257,19 @@ def garbage(talk, rng):
     world = World(rng)
     for _ in range(15):
         c = rng.choice((LEAST_CELLS, 7, 40, 300))
-        length = rng.choice((0, 1, 2, 1000, 1023, 1024, 1025, 1071, 1072, words_needed(c),
-                             words_needed(c) + 3))
+        kind = rng.choice(KINDS)
+        front, needed = kind.front, words_needed(c, kind)
+        length = rng.choice((0, 1, 2, front - 24, front - 1, front, front + 1, front + 47,
+                             front + 48, needed, needed + 3))
         supply = rng.choice((
             lambda: rng.getrandbits(32), lambda: 0, lambda: 2 ** 32 - 1, lambda: rng.randrange(c),
-            lambda: rng.randrange(2 * c), lambda: rng.randrange(65), lambda: c,
-            lambda: rng.choice((0, 1, 64, 255, 65535, 2 ** 32 - 1)), lambda: rng.getrandbits(16)))
+            lambda: rng.randrange(2 * c), lambda: rng.randrange(513), lambda: c,
+            lambda: rng.choice((0, 1, 4, 64, 255, 65535, 2 ** 32 - 1)), lambda: rng.getrandbits(16)))
         words = [supply() for _ in range(length)]
         for position in range(min(length, rng.choice((0, 1, 2, 4)))):
-            words[position] = rng.choice((c, c, 0, 1, 2, 64))
+            words[position] = rng.choice((c, c, 0, 1, 2, 4, 64))
+        if length > KIND and rng.random() < 0.4:
+            words[0], words[KIND] = c, MARK[kind]
         store = Store(talk, length, rng.choice(HOWS))
         talk.set(store.id, 0, words)
         asked = question(talk, rng, store.id, words, table)
@@ -263,20 +292,22 @@ def mazes(talk, rng):
     for _ in range(12):
         c = rng.choice((20, 100, 65536, 65537)) if rng.random() < 0.04 else (
             rng.choice((5, 5, 6, 6, 7, 8, 10, 30)))
-        used = min(c, 60)
-        words = [rng.getrandbits(32) for _ in range(words_needed(used))]
-        words += [0] * (words_needed(c) - len(words) + rng.choice((0, 0, 0, 5)))
+        used, kind = min(c, 60), rng.choice(KINDS)
+        front, last = kind.front, ROW * kind.rules
+        words = [rng.getrandbits(32) for _ in range(words_needed(used, kind))]
+        words += [0] * (words_needed(c, kind) - len(words) + rng.choice((0, 0, 0, 5)))
         if rng.random() < 0.1:
             words.pop()
         links = [rng.randrange(used)] * 20 + [c, c - 1, c + 1, 2 ** 32 - 1]
-        words[0], words[1] = c, rng.choice((0, 3, 63, 64, 65, 100, 2 ** 32 - 1))
-        words[1023] = rng.choice(links)
+        words[0], words[1] = c, rng.choice((0, 3, 63, 64, 65, 100, 511, 512, 513, 2 ** 32 - 1))
+        words[KIND] = MARK[kind] if rng.random() < 0.9 else rng.choice((0, 1, 4, 5, 2 ** 31 + 4))
+        words[link_of(kind, BEGIN)] = rng.choice(links)
         for k in range(used):
-            words[1024 + 8 * k:1027 + 8 * k] = (
+            words[front + 8 * k:front + 3 + 8 * k] = (
                 rng.choice((0, 1, 255, 65535, 2 ** 32 - 1, rng.choice(rng.choice(table).high))),
                 rng.choice((k, k + 1, (k + 1) % used, rng.randrange(used), rng.choice(links))),
                 rng.choice((k, (k + 1) % used, rng.randrange(used), rng.choice(links), 15, 30,
-                            64, 65, 945, 960, 975)))
+                            64, 65, 945, 960, 975, last - ROW, last, last + ROW)))
         store = talk.make(len(words), rng.choice(HOWS))
         talk.set(store, 0, words)
         for _ in range(3):

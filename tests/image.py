@@ -7,11 +7,10 @@ from the rules: no store and no cell is in it.
 
 from functools import lru_cache
 
-from laid import HEAD, ROW, ROWS
-from reference import (DEFAULT, MOST_CELLS, MOST_RULES, TOPS, Rule, count_cells, ends, range_fault,
-                       read_header)
+from laid import ROW, front_of, kind_of, row_of, table_in
+from reference import LARGE, MOST_CELLS, TOPS, count_cells, ends, read_header
 
-FRONT, BLOCK, KEYS = 1024, 16, 8  # words before the blocks, words of a block, ends of a block
+BLOCK, KEYS = 16, 8               # words of a block, ends of a block
 UNUSED = 2 ** 32 - 1              # an end that is not used
 DOWN = 2 ** 31                    # the mark of a link down
 DEEPEST = 8                       # blocks of one field
@@ -19,17 +18,12 @@ REFUSED = (9, 0, 0, 0)
 
 
 @lru_cache(maxsize=64)
-def image(table):
-    """The words of the image of a table, a tuple of rules with the default among them."""
+def image(table, kind=LARGE):
+    """The words of the image of a table, a tuple of rules with the default among them, in a
+    store of this kind."""
     *rules, default = sorted(table, key=lambda rule: rule.number)
-    words = [0, len(rules)] + [0] * (HEAD - 2)
     rows = [default] + rules
-    for rule in rows:
-        row = [rule.number, rule.action]
-        for span in zip(rule.low, rule.high):
-            row += span
-        words += row + [0] * (ROW - len(row))
-    words += [0] * (FRONT - len(words))
+    words = front_of(kind, 0, rows) + [0, 0]
     blocks = []
 
     def chain(held, field):
@@ -70,49 +64,31 @@ def image(table):
 
 
 @lru_cache(maxsize=64)
-def table_in(words):
-    """The table that the words of a front hold, None where it is none within the limits."""
-    n = words[1]
-    if n > MOST_RULES:
-        return None
-    rules = []
-    for row in range(n + 1):
-        number, action, *spans, _ = words[HEAD + ROW * row:][:ROW]
-        rules.append(Rule(number, action, tuple(spans[::2]), tuple(spans[1::2])))
-    default, *others = rules
-    numbers = [rule.number for rule in others]
-    if default.number != DEFAULT or (default.low, default.high) != ((0,) * 6, TOPS):
-        return None
-    if numbers != sorted(set(numbers)) or any(number >= DEFAULT for number in numbers):
-        return None
-    if any(range_fault(rule.low, rule.high) for rule in others):
-        return None
-    return tuple(rules)
-
-
-@lru_cache(maxsize=64)
 def held_by_a_store(table):
     return count_cells(table, MOST_CELLS) <= MOST_CELLS
 
 
 def image_check(words):
     """0 where the words, all of them, are the image of a table that some store holds; or 9."""
-    if len(words) < FRONT:
+    kind = kind_of(words)
+    if kind is None or len(words) < kind.front:
         return 9
-    table = table_in(tuple(words[:FRONT]))
+    table = table_in(tuple(words[:kind.front]))
     if table is None or not held_by_a_store(table):
         return 9
-    return 0 if tuple(words) == image(table) else 9
+    return 0 if tuple(words) == image(table, kind) else 9
 
 
 def image_walk(words, values):
     """(answer, rule, action, blocks) for the words that a lookup is lent."""
-    if len(words) < FRONT or words[2] != 0:
+    kind = kind_of(words)
+    if kind is None or len(words) < kind.front:
         return REFUSED
     link, reads = 0, 0
     for value in values:
         for _ in range(DEEPEST):
-            block = words[FRONT + BLOCK * link:FRONT + BLOCK * link + BLOCK]
+            at = kind.front + BLOCK * link
+            block = words[at:at + BLOCK]
             if len(block) < BLOCK:
                 return REFUSED
             reads += 1
@@ -126,9 +102,10 @@ def image_walk(words, values):
             return REFUSED
         link -= DOWN
     place, rest = divmod(link, ROW)
-    if rest or place > words[1] or place >= ROWS:
+    if rest or place > words[1] or place > kind.rules:
         return REFUSED
-    return (0, words[HEAD + link], words[HEAD + link + 1], reads)
+    row = row_of(kind, place)
+    return (0, words[row], words[row + 1], reads)
 
 
 def image_walk_packet(words, packet):

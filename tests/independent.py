@@ -17,17 +17,20 @@ import sys
 import time
 from collections import Counter
 
+from carry import (carry_bench, carry_full, carry_hostile, carry_limits, carry_refusals,
+                   carry_worlds)
 from cut import cut_examples, cut_grid, cuts
 from dead import (dead_examples, dead_ports, dead_refusals, dead_sixty_four, hidden,
                   hidden_worlds)
 from drive import Disagreement, Driver, Talk
-from edits import crowd, edits, fit, histories, large
-from frozen import (frozen_alike, frozen_cycles, frozen_deep, frozen_examples, frozen_hostile,
-                    frozen_lengths, frozen_mazes, frozen_most, frozen_orders, frozen_pokes,
-                    frozen_refusals, frozen_worlds, frozen_worst)
+from edits import crowd, edits, fit, histories, large, many
+from frozen import (frozen_alike, frozen_cycles, frozen_deep, frozen_examples, frozen_four_levels,
+                    frozen_hostile, frozen_lengths, frozen_mazes, frozen_most, frozen_orders,
+                    frozen_pokes, frozen_refusals, frozen_worlds, frozen_worst)
 from hostile import garbage, hostile, hostile_large, mazes
-from limits import (any_words_before, bench_table, every_length, order_of_refusals,
-                    seven_before_nine, sixty_four, sizes_of_a_walk, starts)
+from limits import (any_words_before, bench_table, every_length, five_hundred_twelve, full_tables,
+                    kinds, order_of_refusals, rows_of_a_walk, seven_before_nine, sizes_of_a_walk,
+                    starts)
 from packets import BenchProgram, captures, every_prefix, header_grid, headers, prefixes
 from portless import (most_reads, port_rule, port_rule_damage, port_tables, request_example,
                       who_has_ports)
@@ -36,21 +39,23 @@ from tallies import differences, hostile_tallies, tallies, tally_edges
 from worst import (worst_alike, worst_damage, worst_examples, worst_sixty_four, worst_tables,
                    worst_ties, worst_tops, worst_worlds)
 
-FIXED = [bench_table, starts, any_words_before, every_length, sizes_of_a_walk, sixty_four,
-         order_of_refusals, header_grid, seven_before_nine, every_prefix, captures, tally_edges,
-         bench_list, corners, port_rule, request_example, who_has_ports, most_reads,
-         port_rule_damage, cut_examples, cut_grid, dead_examples, dead_ports, dead_sixty_four,
-         dead_refusals, worst_examples, worst_ties, worst_tops, worst_sixty_four, worst_damage,
-         frozen_examples, frozen_deep, frozen_worst, frozen_lengths, frozen_refusals, frozen_pokes,
-         frozen_most, frozen_orders, frozen_cycles]
+FIXED = [bench_table, starts, any_words_before, every_length, sizes_of_a_walk, rows_of_a_walk,
+         full_tables, five_hundred_twelve, kinds, order_of_refusals, header_grid, seven_before_nine,
+         every_prefix, captures, tally_edges, bench_list, corners, port_rule, request_example,
+         who_has_ports, most_reads, port_rule_damage, cut_examples, cut_grid, dead_examples,
+         dead_ports, dead_sixty_four, dead_refusals, worst_examples, worst_ties, worst_tops,
+         worst_sixty_four, worst_damage, frozen_examples, frozen_deep, frozen_worst, frozen_lengths,
+         frozen_refusals, frozen_pokes, frozen_most, frozen_orders, frozen_cycles,
+         frozen_four_levels, carry_bench, carry_refusals, carry_full, carry_limits]
 
 # In this order again and again; the costly ones come seldom.
-RANDOM = [edits, hostile, fit, headers, frozen_worlds, edits, histories, hostile, garbage, edits,
-          frozen_hostile, crowd, fit, histories, hostile, prefixes, edits, headers, large, hostile,
-          histories, hostile_large, mazes, mazes, tallies, differences, tallies, hostile_tallies,
-          lists, frozen_mazes, frozen_worlds, beside, port_tables, port_rule_damage, port_tables,
-          cuts, hidden, hidden_worlds, hidden, hidden, worst_tables, worst_worlds, worst_tables,
-          worst_alike, frozen_hostile, frozen_alike]
+RANDOM = [edits, hostile, fit, headers, frozen_worlds, carry_worlds, carry_hostile, edits,
+          histories, hostile, garbage, edits, frozen_hostile, crowd, fit, histories, hostile,
+          prefixes, edits, headers, large, hostile, histories, hostile_large, mazes, mazes,
+          tallies, differences, tallies, hostile_tallies, lists, frozen_mazes, frozen_worlds,
+          beside, port_tables, port_rule_damage, port_tables, cuts, many, hidden, hidden_worlds,
+          hidden, hidden, worst_tables, worst_worlds, worst_tables, worst_alike, frozen_hostile,
+          frozen_alike, carry_worlds, carry_hostile]
 
 
 class Run:

@@ -4,18 +4,12 @@ have it: the rules that trace.py holds a trace to."""
 from collections import Counter, namedtuple
 
 from image import BLOCK, DEEPEST, DOWN, KEYS
-from laid import CELL, HEAD, ROW
-from reference import LEAST_CELLS, MOST_CELLS, read_header
+from laid import BEGIN, CELL, FREE, KIND, ROW, kind_of, link_of, row_of
+from reference import LEAST_CELLS, MOST_CELLS, PLACES, read_header, words_needed
 
-# The layout of a store, as docs/STORE.md has it.
-FRONT = 1024                   # the words before the cells
-FREE = 1022                    # the word that says how many cells the tree takes
-BEGIN = 1023                   # the word that says where a walk begins
-PLACES = 65                    # rows, and places of a tally record
-KIND, MARK = 2, 0              # the word that names the kind, and what it says
-FRONT_LOADS = (0, 1, KIND, BEGIN) # what every lookup loads of the front, besides the rule's row
+FRONT_LOADS = (0, 1, KIND)     # what every lookup loads of the head; with them the word where a walk begins
 RULE_LOADS = (0, 1)            # what it loads of that row: number and action
-FIXED = len(FRONT_LOADS) + len(RULE_LOADS)
+FIXED = len(FRONT_LOADS) + 1 + len(RULE_LOADS)
 IMAGE_LOADS = (1, KIND)        # what every lookup over an image loads of its front, besides the row
 LINE = 16                      # words of a line of 64 bytes
 LINKS = 3                      # the words of a cell that a search takes: end, next and down
@@ -29,7 +23,7 @@ HEADER_BYTES = {0, 2, 3, 6, 7, 9, *range(12, 20)}
 # The commands of trace.c, and where it puts what it lends.
 (FILL, GET, START, START_WITH, INSERT, DELETE, CHECK, READ, RULE_AT, DEAD, WORST, CELLS, LOOKUP,
  LOOKUP_PACKET, LOOKUP_TALLY, SCAN, PREFIX, CLEAR, DIFFERENCE, IMAGE_WORDS, FREEZE, IMAGE_CHECK,
- IMAGE_LOOKUP, IMAGE_PACKET, IMAGE_TALLY, IMAGE_WORST) = range(26)
+ IMAGE_LOOKUP, IMAGE_PACKET, IMAGE_TALLY, IMAGE_WORST, CARRY) = range(27)
 # the words of these are an image's
 IMAGE_CALLS = (IMAGE_CHECK, IMAGE_LOOKUP, IMAGE_PACKET, IMAGE_TALLY, IMAGE_WORST)
 BASE, SIZE = 0x300000000, 0x100000
@@ -99,9 +93,21 @@ def name(place):
 
 # ---- a lookup
 
+def kind_in(call):
+    """The kind that the words name that a call is lent, None where they name none."""
+    return kind_of(call.words[:min(call.len, KIND + 1)])
+
+
 def room_in(call):
-    words = call.words
-    return call.len > 0 and LEAST_CELLS <= words[0] <= MOST_CELLS and call.len >= FRONT + CELL * words[0]
+    words, kind = call.words, kind_in(call)
+    return (kind is not None and LEAST_CELLS <= words[0] <= MOST_CELLS
+            and call.len >= words_needed(words[0], kind))
+
+
+def started(c, length):
+    """The words that a start or a carrying makes, of so many: none where it is refused."""
+    fits = LEAST_CELLS <= c <= MOST_CELLS and words_needed(c) <= length
+    return words_needed(c) if fits else 0
 
 
 def size_of(call):
@@ -109,42 +115,45 @@ def size_of(call):
     if call.op in IMAGE_CALLS:
         return call.len
     if call.op in (START, START_WITH):
-        c = call.numbers[0]
-        fits = LEAST_CELLS <= c <= MOST_CELLS and FRONT + CELL * c <= call.len
-        return FRONT + CELL * c if fits else 0
-    return FRONT + CELL * call.words[0] if room_in(call) else call.len
+        return started(call.numbers[0], call.len)
+    return words_needed(call.words[0], kind_in(call)) if room_in(call) else call.len
 
 
 def walk(call, values):
     """The cells of each field that a walk over any words reads, each with 1 or 2 for
     its next or down, and the place that it comes to: none where it is lost."""
-    if not room_in(call) or call.words[KIND] != MARK:
+    if not room_in(call):
         return [], None
-    words, fields = call.words, []
-    c, cell = words[0], words[BEGIN]
+    words, fields, kind = call.words, [], kind_in(call)
+    c, cell = words[0], words[link_of(kind, BEGIN)]
     for value in values:
         fields.append([])
         while True:
             if cell >= c or len(fields[-1]) == c:
                 return fields, None
-            end, following, below = words[FRONT + CELL * cell:][:3]
+            at = kind.front + CELL * cell
+            end, following, below = words[at:at + 3]
             fields[-1].append((cell, 2 if end >= value else 1))
             if end >= value:
                 break
             cell = following
         cell = below
     place, rest = divmod(cell, ROW)
-    return fields, place if not rest and place <= min(words[1], PLACES - 1) else None
+    return fields, place if not rest and place <= min(words[1], kind.rules) else None
 
 
 def see_walk(call, values, touched, result):
     fields, place = walk(call, values)
     loaded = touched.loaded(STORE, call.len)
-    cells = Counter(FRONT + CELL * cell + part for field in fields for cell, way in field
+    kind = kind_in(call)
+    if kind is None:
+        expect(set(loaded) <= set(FRONT_LOADS), 'of words of no kind it loads %s', sorted(loaded))
+        return
+    cells = Counter(kind.front + CELL * cell + part for field in fields for cell, way in field
                     for part in (0, way))
-    front = Counter(FRONT_LOADS)
+    front = Counter((*FRONT_LOADS, link_of(kind, BEGIN)))
     if place is not None:
-        front.update(HEAD + ROW * place + part for part in RULE_LOADS)
+        front.update(row_of(kind, place) + part for part in RULE_LOADS)
         want = cells + front
         reads = sum(map(len, fields))
         expect(result[3] == reads or result[0], 'it counts %d reads, not %d', result[3], reads)
@@ -154,10 +163,10 @@ def see_walk(call, values, touched, result):
         expect(loaded == want, 'it loads other words than those of a lookup: %s',
                differences(loaded, want))
     else:
-        in_cells = Counter({i: n for i, n in loaded.items() if i >= FRONT})
+        in_cells = Counter({i: n for i, n in loaded.items() if i >= kind.front})
         if fields and len(fields[-1]) == call.words[0]:
             # it stops after c cells, and need not load where the last one leads
-            unused = Counter([FRONT + CELL * fields[-1][-1][0] + 1])
+            unused = Counter([kind.front + CELL * fields[-1][-1][0] + 1])
             cells -= unused - (in_cells - (cells - unused))
         expect(in_cells == cells, 'it loads other cells than those of the walk: %s',
                differences(in_cells, cells))
@@ -168,13 +177,13 @@ def see_walk(call, values, touched, result):
 def image_walk(call, values):
     """The blocks of each field that a walk over any words reads, each with the place of the link
     that is taken, 8 for none, and the place that it comes to: none where it is lost."""
-    words, fields, block = call.words[:call.len], [], 0
-    if call.len < FRONT or words[KIND] != MARK:
+    words, fields, block, kind = call.words[:call.len], [], 0, kind_in(call)
+    if kind is None or call.len < kind.front:
         return [], None
     for value in values:
         fields.append([])
         while True:
-            at = FRONT + BLOCK * block
+            at = kind.front + BLOCK * block
             if len(fields[-1]) == DEEPEST or at + BLOCK > call.len:
                 return fields, None
             passed = sum(end < value for end in words[at:at + KEYS])
@@ -186,7 +195,7 @@ def image_walk(call, values):
                 break
         block -= DOWN
     place, rest = divmod(block, ROW)
-    return fields, place if not rest and place <= min(words[1], PLACES - 1) else None
+    return fields, place if not rest and place <= min(words[1], kind.rules) else None
 
 
 def see_image_walk(call, values, touched, result):
@@ -195,9 +204,12 @@ def see_image_walk(call, values, touched, result):
     for each block, and at most three of the front."""
     fields, place = image_walk(call, values)
     loaded = touched.loaded(STORE, call.len)
-    blocks = Counter()
+    blocks, kind = Counter(), kind_in(call)
+    if kind is None:
+        expect(set(loaded) <= set(IMAGE_LOADS), 'of words of no kind it loads %s', sorted(loaded))
+        return
     for block, passed in (read for field in fields for read in field):
-        at = FRONT + BLOCK * block
+        at = kind.front + BLOCK * block
         blocks.update(range(at, at + KEYS))
         blocks.update([at + KEYS + passed] * (passed < KEYS))
     front = Counter(IMAGE_LOADS)
@@ -206,16 +218,16 @@ def see_image_walk(call, values, touched, result):
     expect(len(lines) <= reads + 3, 'it touches %d lines for %d blocks', len(lines), reads)
     expect(all(len(field) <= DEEPEST for field in fields), 'the walk goes on in a field')
     if place is not None:
-        front.update(HEAD + ROW * place + part for part in RULE_LOADS)
+        front.update(row_of(kind, place) + part for part in RULE_LOADS)
         expect(result[3] == reads or result[0], 'it counts %d blocks, not %d', result[3], reads)
         expect(loaded == blocks + front, 'it loads other words than those of a lookup: %s',
                differences(loaded, blocks + front))
     else:
-        in_blocks = Counter({i: n for i, n in loaded.items() if i >= FRONT})
+        in_blocks = Counter({i: n for i, n in loaded.items() if i >= kind.front})
         if fields and len(fields[-1]) == DEEPEST and fields[-1][-1][1] < KEYS:
             # it stops after 8 blocks, and need not load where the last one leads
             block, passed = fields[-1][-1]
-            unused = Counter([FRONT + BLOCK * block + KEYS + passed])
+            unused = Counter([kind.front + BLOCK * block + KEYS + passed])
             blocks -= unused - (in_blocks - (blocks - unused))
         expect(in_blocks == blocks, 'it loads other words of blocks than those of the walk: %s',
                differences(in_blocks, blocks))
@@ -253,7 +265,7 @@ def see_tally(call, touched, result):
     row = None if values is None else way(call, values)[1]
     loads = stores = Counter()
     if row is not None:
-        number = call.words[HEAD + ROW * row]
+        number = call.words[row_of(kind_in(call), row)]
         held = number <= 65535 and number in keys
         free = [i for i, key in enumerate(keys) if key > 65535]
         place = keys.index(number) if held else free[0] if free else None
@@ -305,6 +317,20 @@ def see_freeze(call, touched, result):
            differences(set(stored), set(range(total * taken))))
 
 
+def see_carry(call, touched, result):
+    """Every word of the new store is written and none behind it; with a refusal none is touched.
+    No word of the old one is written."""
+    room, c = call.numbers
+    taken = result[0] == 0
+    total = started(c, room) * taken
+    touched.only((STORE, 4 * size_of(call)), (IMAGE, 4 * total))
+    expect(not touched.stored(STORE, call.len), 'it writes words of the old store')
+    expect(result[0] != 0 or total, 'it takes %d cells in %d words', c, room)
+    stored = touched.stored(IMAGE, room)
+    expect(set(stored) == set(range(total)), 'it writes other words of the new store: %s',
+           differences(set(stored), set(range(total))))
+
+
 # The words over which the check was seen last, and how often it loads each of them: that is the
 # compiler's own choice.
 checked = {}
@@ -321,10 +347,11 @@ def see_dead(call, touched, result):
     come before."""
     see_reader(call, touched, result)
     expect(checked['words'] == list(call.words), 'the check was seen over other words')
+    kind = kind_in(call)
     for word, times in touched.loaded(STORE, call.len).items():
-        cell, part = divmod(word - FRONT, CELL)
+        cell, part = divmod(word - kind.front, CELL) if kind else (-1, 0)
         if cell >= 0:
-            tree = result[0] == 0 and part < LINKS and cell < call.words[FREE]
+            tree = result[0] == 0 and part < LINKS and cell < call.words[link_of(kind, FREE)]
             most = checked['loads'][word] + tree
             expect(times <= most, 'it loads word %d of cell %d %d times, and %d are enough', part,
                    cell, times, most)
@@ -335,9 +362,9 @@ def see_worst(call, touched, result):
     than the check does, and where its chain leads on is loaded."""
     see_dead(call, touched, result)
     if result[0] == 0:
-        loaded = touched.loaded(STORE, call.len)
-        for cell in range(call.words[FREE]):
-            word = FRONT + CELL * cell + NEXT
+        loaded, kind = touched.loaded(STORE, call.len), kind_in(call)
+        for cell in range(call.words[link_of(kind, FREE)]):
+            word = kind.front + CELL * cell + NEXT
             once = checked['loads'][word] + 1
             expect(loaded[word] == once, 'it loads the next of cell %d %d times, not %d', cell,
                    loaded[word], once)
@@ -350,13 +377,16 @@ def see_image_check(call, touched, result):
 
 def see_image_worst(call, touched, result):
     """The image check goes over the words once. Then, where it passes, the rows are gone through:
-    no block is looked at again, and of the front no word but the number of rules and the rows.
+    no block is looked at again, and of the front no word but the number of rules, the kind and
+    the rows.
     The check alone, over the same words, has come before."""
     see_reader(call, touched, result)
     expect(checked['image'] == (list(call.words), call.len), 'the check was seen over other words')
+    kind = kind_in(call)
     for word, times in touched.loaded(STORE, call.len).items():
-        rows = result[0] == 0 and (word == 1 or HEAD <= word < HEAD + ROW * PLACES)
-        most = checked['image_loads'][word]
+        rows = result[0] == 0 and (word == 1 or row_of(kind, 0) <= word < row_of(kind, kind.rules + 1))
+        # the kind is looked at for the check, and once more for the rows
+        most = checked['image_loads'][word] + (word == KIND)
         expect(rows or times <= most, 'it loads word %d %d times, and %d are enough', word, times,
                most)
 
@@ -373,5 +403,5 @@ def see(call, touched, result):
         {LOOKUP_PACKET: see_packet, LOOKUP_TALLY: see_tally, SCAN: see_scan, CHECK: see_check,
          READ: see_reader, RULE_AT: see_reader, DEAD: see_dead, WORST: see_worst,
          CELLS: see_reader, IMAGE_WORDS: see_reader, IMAGE_CHECK: see_image_check,
-         IMAGE_WORST: see_image_worst, FREEZE: see_freeze, IMAGE_PACKET: see_packet,
+         IMAGE_WORST: see_image_worst, FREEZE: see_freeze, CARRY: see_carry, IMAGE_PACKET: see_packet,
          IMAGE_TALLY: see_tally}.get(call.op, see_edit)(call, touched, result)

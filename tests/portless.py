@@ -1,8 +1,8 @@
 """Cases about packets without ports: field 6, and the port rule."""
 
-from laid import laid
+from laid import FREE, laid, link_of, row_of
 from packets import address
-from reference import (DEFAULT, PORTLESS, PORTS, Rule, default_rule, range_fault,
+from reference import (DEFAULT, KINDS, PORTLESS, PORTS, Rule, default_rule, range_fault,
                        read_header, scan, winner_and_reads, words_needed)
 from store import HOWS, Store, expect, fresh
 from tables import CHOICES, World, packet_of, random_packet, values_near
@@ -170,13 +170,15 @@ def port_rule_damage(talk, rng):
         bad = broken_rows(rng, good)
         if laid(5000, good) is None or laid(5000, bad) is None:
             continue
+        kind = rng.choice(KINDS)
+        free = link_of(kind, FREE)
         for rules, check in ((good, 0), (bad, 9)):
-            c = laid(5000, rules)[1022] + rng.choice((0, 0, 1, 9))
-            words = laid(c, rules) + [rng.getrandbits(32)] * rng.choice((0, 0, 3))
+            c = laid(5000, rules, kind)[free] + rng.choice((0, 0, 1, 9))
+            words = laid(c, rules, kind) + [rng.getrandbits(32)] * rng.choice((0, 0, 3))
             store = talk.make(len(words), rng.choice(HOWS))
             talk.set(store, 0, words)
             talk.check(store, check)
-            talk.cells(store, (0, words[1022]) if check == 0 else (9, 0))
+            talk.cells(store, (0, words[free]) if check == 0 else (9, 0))
             for place, rule in enumerate(rules):
                 read = (0, rule.number, rule.action) + rule.low + rule.high
                 talk.read(store, rule.number, READ_9 if check else read)
@@ -200,19 +202,20 @@ def port_rule_damage(talk, rng):
             else:
                 # one end of field 6 changed in a row, which passes where the tree does not show it
                 place = rng.randint(1, len(numbers))
-                row = 47 + 15 * place
+                row, default = row_of(kind, place), row_of(kind, 0)
                 position = row + 2 + 2 * PORTLESS + rng.randrange(2)
                 changed = list(words)
                 changed[position] = rng.choice((2, WORD, 1 - words[position]))
                 rule = Rule(*changed[row:row + 2], tuple(changed[row + 2:row + 14:2]),
                             tuple(changed[row + 3:row + 14:2]))
-                others = laid(c, rules[:place] + [rule] + rules[place + 1:])
+                others = laid(c, rules[:place] + [rule] + rules[place + 1:], kind)
                 talk.set(store, position, [changed[position]])
                 talk.check(store, 9 if range_fault(rule.low, rule.high)
-                           or others != changed[:words_needed(c)] else 0)
+                           or others != changed[:words_needed(c, kind)] else 0)
                 talk.set(store, position, [words[position]])
                 # the default's row, which asks 0 to 1, and the word of a row behind its ends
-                for position in (47 + 2 + 2 * PORTLESS, 47 + 3 + 2 * PORTLESS, 47 + 14, row + 14):
+                for position in (default + 2 + 2 * PORTLESS, default + 3 + 2 * PORTLESS, default + 14,
+                                 row + 14):
                     talk.set(store, position, [rng.choice((1 - words[position], 2, WORD))])
                     talk.check(store, 9)
                     talk.set(store, position, [words[position]])
@@ -249,11 +252,11 @@ def port_tables(talk, rng):
     store.audit(rng)
     account = store.account
     rules = [account.default] + account.table()[:-1]
-    words = laid(c, rules)
-    expect(words is not None and len(words) == words_needed(c), 'the layout takes other cells')
-    beside = Store(talk, words_needed(c))
+    words, size = laid(c, rules, store.kind), words_needed(c, store.kind)
+    expect(words is not None and len(words) == size, 'the layout takes other cells')
+    beside = Store(talk, size)
     talk.set(beside.id, 0, words)
-    talk.same(store.id, beside.id, words_needed(c))
+    talk.same(store.id, beside.id, size)
     table = account.table()
     shuffled = rng.sample(table[:-1], len(table) - 1)
     for _ in range(40):

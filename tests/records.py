@@ -40,7 +40,7 @@ def lists(talk, rng):
     world = World(rng)
     world.numbers = rng.choice((world.numbers, range(3), (7,), (65534, 65535, 65536)))
     for _ in range(20):
-        records = [any_record(world, rng) for _ in range(rng.choice((0, 1, 2, 5, 20, 64, 200)))]
+        records = [any_record(world, rng) for _ in range(rng.choice((0, 1, 2, 5, 20, 64, 200, 512)))]
         for _ in range(12):
             values = (values_near(rng, straight(records)) if records
                       else tuple(rng.randint(0, top) for top in TOPS))

@@ -1,4 +1,4 @@
-"""The reference account of Reamstork, written from documents 01 and 02 alone.
+"""The reference account of Reamstork, written from documents 01 and 02 and the requests alone.
 
 There is no tree and there are no cells in its answers: the winner and the
 count of reads come straight from the rules, in the words of demands 2 and 3.
@@ -11,8 +11,15 @@ from collections import namedtuple
 TOPS = (4294967295, 4294967295, 255, 65535, 65535, 1)
 PORTS, PORTLESS = (3, 4), 5
 DEFAULT = 65535
-MOST_RULES = 64
 LEAST_CELLS, MOST_CELLS = 6, 65536
+
+# The two kinds of store: how many rules a table has at most besides the default, and how many
+# words a store has besides 8 for each cell, an image besides 16 for each block. A start makes a
+# large one; small ones stand in memory that keeps its words.
+Kind = namedtuple('Kind', 'name rules front')
+SMALL, LARGE = KINDS = Kind('small', 64, 1024), Kind('large', 512, 8192)
+# A tally record has a place for each rule of a full table and one for the default.
+PLACES = 513
 
 DONE = 0
 NUMBER_TOO_HIGH, BAD_RANGE, ALREADY_THERE, NOT_THERE, TABLE_FULL, NO_ROOM = 1, 2, 3, 4, 5, 6
@@ -26,8 +33,8 @@ def default_rule(action):
     return Rule(DEFAULT, action, (0,) * 6, TOPS)
 
 
-def words_needed(c):
-    return 1024 + 8 * c
+def words_needed(c, kind=LARGE):
+    return kind.front + 8 * c
 
 
 # ---- what the rules say -------------------------------------------------
@@ -222,17 +229,31 @@ def range_fault(low, high):
 class Account:
     """What a store must hold and answer, for stores that pass the check."""
 
-    def __init__(self):
-        self.c = None
-        self.rules = {}
-        self.default = None
-
-    def start(self, length, c, action=0):
-        if not LEAST_CELLS <= c <= MOST_CELLS or length < words_needed(c):
-            return BAD_START
+    def __init__(self, kind=LARGE, c=None, action=0):
+        self.kind = kind
         self.c = c
         self.rules = {}
         self.default = default_rule(action)
+
+    def start(self, length, c, action=0):
+        """A start makes a large store, whatever the words held."""
+        if not LEAST_CELLS <= c <= MOST_CELLS or length < words_needed(c):
+            return BAD_START
+        self.kind, self.c = LARGE, c
+        self.rules, self.default = {}, default_rule(action)
+        return DONE
+
+    def carry(self, other, length, c):
+        """Carries the table of another account, None where its words fail the check, to this
+        one, which has so many words: the same rules in a large store of c cells."""
+        if other is None:
+            return BAD_STORE
+        if not LEAST_CELLS <= c <= MOST_CELLS or length < words_needed(c):
+            return BAD_START
+        if count_cells(other.table(), c) > c:
+            return NO_ROOM
+        self.kind, self.c = LARGE, c
+        self.rules, self.default = dict(other.rules), other.default
         return DONE
 
     def table(self):
@@ -248,7 +269,7 @@ class Account:
             return BAD_RANGE
         if number in self.rules:
             return ALREADY_THERE
-        if len(self.rules) >= MOST_RULES:
+        if len(self.rules) >= self.kind.rules:
             return TABLE_FULL
         rule = Rule(number, action, tuple(low), tuple(high))
         if self.cells_with(rule, self.c) > self.c:
@@ -315,8 +336,8 @@ class Account:
         return self.lookup(values)
 
     def image_words(self):
-        """(answer, words): 1,024 in front and 16 for each block."""
-        return (DONE, 1024 + 16 * count_blocks(self.table()))
+        """(answer, words): the front of the store's kind and 16 for each block."""
+        return (DONE, self.kind.front + 16 * count_blocks(self.table()))
 
     def image_worst(self):
         """(answer, blocks, six values): the greatest count of blocks, and the least record that
@@ -341,10 +362,11 @@ class Account:
 # ---- tallies ------------------------------------------------------------
 
 class Tally:
-    """A tally record: 65 places, each a key, packets and bytes."""
+    """A tally record: 513 places, each a key, packets and bytes."""
 
     def __init__(self, words):
-        self.places = [list(place) for place in zip(words[:65], words[65:130], words[130:])]
+        self.places = [list(place) for place in zip(words[:PLACES], words[PLACES:2 * PLACES],
+                                                    words[2 * PLACES:])]
 
     def words(self):
         return tuple(place[part] for part in range(3) for place in self.places)
@@ -479,7 +501,7 @@ def bench_output(capture):
         return 'refused 12\n'
     packets, ending = read
     account = Account()
-    account.start(words_needed(1920), 1920)
+    account.start(words_needed(1024), 1024)
     for rule in BENCH_RULES:
         account.insert(*rule)
     lines = ['packet answer rule action reads']

@@ -24,7 +24,7 @@ enum { ENDS = 0x1000, TALLIES = 0x2000, PACKET = 0x4000, RECORDS = 0x8000, STORE
        IMAGE = 0x80000, SIZE = 0x100000, PATTERN = 0xA5 };
 enum { FILL, GET, START, START_WITH, INSERT, DELETE, CHECK, READ, RULE_AT, DEAD, WORST, CELLS,
        LOOKUP, LOOKUP_PACKET, LOOKUP_TALLY, SCAN, PREFIX, CLEAR, DIFFERENCE, IMAGE_WORDS, FREEZE,
-       IMAGE_CHECK, IMAGE_LOOKUP, IMAGE_PACKET, IMAGE_TALLY, IMAGE_WORST };
+       IMAGE_CHECK, IMAGE_LOOKUP, IMAGE_PACKET, IMAGE_TALLY, IMAGE_WORST, CARRY };
 
 extern char __executable_start, end;
 
@@ -97,6 +97,16 @@ static void freeze(void) {
   CALL(uint32_t, reamstork_freeze(words, len, image, image_len));
 }
 
+/* Into a store in as many words as are said, all full of the pattern, where images stand. */
+static void carry(void) {
+  uint32_t *store = (void *)(lent + IMAGE);
+  size_t store_len = next();
+  uint32_t c = next();
+  if (IMAGE + 4 * store_len > SIZE) stop("too many words");
+  memset(store, PATTERN, SIZE - IMAGE);
+  CALL(uint32_t, reamstork_carry(words, len, store, store_len, c));
+}
+
 static void lookup(uint32_t op) {
   uint32_t a = next(), b = next(), c = next(), d = next(), e = next(), f = next();
   if (op == LOOKUP) { CALL(reamstork_found, reamstork_lookup(words, len, a, b, c, d, e, f)); }
@@ -158,6 +168,7 @@ static void run(uint32_t op) {
   else if (op == LOOKUP || op == IMAGE_LOOKUP) lookup(op);
   else if (op <= LOOKUP_TALLY || op == IMAGE_PACKET || op == IMAGE_TALLY) lookup_packet(op);
   else if (op == FREEZE) freeze();
+  else if (op == CARRY) carry();
   else if (op == SCAN) scan();
   else if (op <= DIFFERENCE) small(op);
   else stop("no such command");

@@ -5,8 +5,8 @@
 
 The proofs speak of what a call answers and leaves, not of what it reads. Here
 valgrind's lackey writes a line for each load and each store while trace.c, linked
-with the archive, makes calls over random tables, damaged words, packets, tally
-records and lists. Of each call is seen (loads.py):
+with the archive, makes calls over random tables of either kind, damaged words,
+packets, tally records and lists. Of each call is seen (loads.py):
 
 - A lookup by values, by packet or with tallies loads four words of the front, the
   number and action of the rule that decides, and two words of each cell that it
@@ -17,11 +17,13 @@ records and lists. Of each call is seen (loads.py):
 - A lookup that is refused with 7, 11 or 14 touches no word of the store.
 - Of a packet it loads the bytes that TIMING names. Of a tally record it loads the keys
   once, up to the one that is held, and writes the one place that counts.
-- A lookup over an image, by values, by packet or with tallies, loads two words of the front, two
-  of the rule's row, and of each block that it counts the eight ends and one link: 4 + 9 x blocks
-  words. So it touches a line of 64 bytes for each block and at most three more. Over damaged
-  words it loads the blocks of the walk, at most 8 in a field, and no others. It writes none.
-- A freeze writes every word of its image and none behind them; refused, it touches none.
+- A lookup over an image, by values, by packet or with tallies, loads two words of the front, the
+  one that names the kind twice, two of the rule's row, and of each block that it counts the eight
+  ends and one link: 5 + 9 x blocks words. So it touches a line of 64 bytes for each block and at
+  most three more. Over damaged words it loads the blocks of the walk, at most 8 in a field, and no
+  others. It writes none.
+- A freeze writes every word of its image and none behind them; refused, it touches none. So
+  does a carrying with its new store, and it writes no word of the old one.
 - A scan loads words of every record of its list, no more than the list has, and touches
   nothing else that could be lent.
 - Dead and worst go over the cells once for the check. Then dead goes at most once through the
@@ -45,16 +47,18 @@ from collections import Counter
 
 from calls import ARCHIVE, Program, Script, cannot
 from image import BLOCK, DOWN, KEYS, image
-from loads import (BEGIN, CELL, CELLS, CHECK, CLEAR, DEAD, DELETE, DIFFERENCE, FREEZE, FRONT,
-                   IMAGE_CHECK, IMAGE_LOOKUP, IMAGE_PACKET, IMAGE_TALLY, IMAGE_WORDS, IMAGE_WORST,
-                   INSERT, LOOKUP, LOOKUP_PACKET, LOOKUP_TALLY, PLACES, PREFIX, READ, RULE_AT, SCAN,
-                   START, START_WITH, WORST, Fault, Touched, see)
-from reference import DEFAULT, LEAST_CELLS, TOPS, Rule, default_rule
+from laid import BEGIN, CELL, KIND, kind_of, laid, link_of
+from loads import (CARRY, CELLS, CHECK, CLEAR, DEAD, DELETE, DIFFERENCE, FREEZE, IMAGE_CHECK,
+                   IMAGE_LOOKUP, IMAGE_PACKET, IMAGE_TALLY, IMAGE_WORDS, IMAGE_WORST,
+                   INSERT, LOOKUP, LOOKUP_PACKET, LOOKUP_TALLY, PREFIX, READ, RULE_AT, SCAN, START,
+                   START_WITH, WORST, Fault, Touched, see)
+from reference import (DEFAULT, KINDS, LARGE, LEAST_CELLS, PLACES, SMALL, TOPS, Rule, count_cells,
+                       default_rule, words_needed)
 from tables import World, packet_of, random_packet, values_above, values_near
 
 # each call's name, and the answers that a run has to see
 CALLS = {
-    START: ('start', {0, 8}), START_WITH: ('start_with', {0, 8}),
+    START: ('start', {0, 8}), START_WITH: ('start_with', {0, 8}), CARRY: ('carry', {0, 6, 8, 9}),
     INSERT: ('insert', {0, 1, 2, 3, 5, 6, 9}), DELETE: ('delete', {0, 1, 4, 9}),
     CHECK: ('check', {0, 9}), READ: ('read', {0, 1, 4, 9}), RULE_AT: ('rule_at', {0, 4, 9}),
     DEAD: ('dead', {0, 1, 4, 9}), WORST: ('worst', {0, 9}), CELLS: ('cells', {0, 9}),
@@ -74,35 +78,45 @@ FULL = (0,) * 6, TOPS
 # ---- stores
 
 def tables(program, rng, count):
-    """Random tables, one that is full, and one that has no room: c, the rules with the
-    default, the words."""
+    """Random tables, those that are full, and those that have no room: c, the rules with the
+    default, the words, and whether all calls are made, which in a large store go over many words
+    each: else those that go over all of its words are left out."""
     script = Script()
-    made = [(60, [Rule(n, n, *FULL) for n in range(64)]), (LEAST_CELLS, [])]
+    made = [(SMALL, 60, [Rule(n, n, *FULL) for n in range(64)], True), (SMALL, LEAST_CELLS, [], True),
+            (LARGE, LEAST_CELLS, [], True), (LARGE, 60, [Rule(n, n, *FULL) for n in range(512)], False)]
     for i in range(count):
         c = 1920 if i % 6 == 5 else rng.choice((LEAST_CELLS, 20, 40, 60, 120, 300))
         world = World(rng)
         numbers = rng.sample(range(65535), rng.randint(0, 40 if c == 1920 else 10))
-        made.append((c, [world.rule(number) for number in numbers]))
-    for c, rules in made:
-        script.fill([0] * (FRONT + CELL * c))
-        script.call(START_WITH, c, 7)
+        made.append((LARGE if i % 5 == 0 else SMALL, c, [world.rule(number) for number in numbers],
+                     i % 5 > 0 or i == 10))
+    for kind, c, rules, _ in made:
+        size = words_needed(c, kind)
+        script.fill([0] * size if kind == LARGE else laid(c, [default_rule(7)], kind))
+        if kind == LARGE:
+            script.call(START_WITH, c, 7)
+        else:
+            script.call(CHECK)
         for rule in rules:
             script.insert(rule)
-        script.get(FRONT + CELL * c)
+        script.get(size)
     given, at = program.run(script), 0
-    for c, rules in made:
+    for kind, c, rules, whole in made:
+        size = words_needed(c, kind)
         held = [rule for rule, answer in zip(rules, given[at + 1:]) if answer == 0]
         at += 1 + len(rules)
-        yield c, held + [default_rule(7)], list(given[at:at + FRONT + CELL * c])
-        at += FRONT + CELL * c
+        yield c, held + [default_rule(7)], list(given[at:at + size]), whole
+        at += size
 
 
 def damaged(rng, c, words):
-    """The words with some changed, most of them links."""
-    words = list(words)
+    """The words with some changed, most of them links; now and then they name another kind."""
+    words, kind = list(words), kind_of(words)
+    if rng.random() < 0.1:
+        words[KIND] = rng.choice((0, 1, 4, 5, rng.getrandbits(32)))
     for _ in range(rng.choice((1, 2, 5, 20))):
-        place = FRONT + CELL * rng.randrange(c) + rng.randrange(3)
-        words[rng.choice((place, place, place, BEGIN, 1))] = rng.choice((
+        place = kind.front + CELL * rng.randrange(c) + rng.randrange(3)
+        words[rng.choice((place, place, place, link_of(kind, BEGIN), 1))] = rng.choice((
             0, 1, c - 1, c, rng.randrange(c), rng.randrange(c), rng.choice(words),
             rng.getrandbits(32)))
     return words
@@ -113,11 +127,13 @@ def maze(rng, c, words, end):
     their ends are 0 but that of the last, and all lead down to the first one. So a
     field's value of 0 reads one cell, one up to `end` reads c cells, and one above it
     goes round."""
-    words = words[:FRONT] + [0] * (CELL * c)
+    kind = kind_of(words)
+    front = kind.front
+    words = words[:front] + [0] * (CELL * c)
     ring = rng.sample(range(c), c)
     for cell, following in zip(ring, ring[1:] + ring[:1]):
-        words[FRONT + CELL * cell:FRONT + CELL * cell + 3] = 0, following, ring[0]
-    words[BEGIN], words[FRONT + CELL * ring[-1]] = ring[0], end
+        words[front + CELL * cell:front + CELL * cell + 3] = 0, following, ring[0]
+    words[link_of(kind, BEGIN)], words[front + CELL * ring[-1]] = ring[0], end
     return words
 
 
@@ -171,7 +187,7 @@ def refused_edits(script, rng, rules):
     if all(rule.number != 8 for rule in rules):
         script.call(DELETE, 8)
     for c in (LEAST_CELLS - 1, 65537, 1 << 31,
-              (script.len - FRONT) // CELL + 1 if script.len >= FRONT else LEAST_CELLS):
+              max((script.len - LARGE.front) // CELL + 1, LEAST_CELLS)):
         script.call(START, c)
         script.call(START_WITH, c, 3)
 
@@ -186,11 +202,22 @@ def taken_edits(script, rng, c, rules, words):
     script.fill(words)
     script.call(DELETE, rng.choice(rules).number)
     for op, more in ((START, ()), (START_WITH, (5,))):
-        script.fill([rng.getrandbits(32) for _ in words])
+        script.fill([rng.getrandbits(32) for _ in range(words_needed(c) + rng.randrange(9))])
         script.call(op, rng.randint(LEAST_CELLS, c), *more)
 
 
-def over_table(script, rng, c, rules, words):
+def carries(script, rules):
+    """Into too few words, into too few cells, and into enough: with and without words behind."""
+    needed = count_cells(rules, 65536)
+    for c in (LEAST_CELLS - 1, needed - 1, needed, needed + 20, 65537):
+        room = words_needed(min(c, 4000))
+        for length in (room - 1, room) if c > needed else (room,):
+            script.carry(length, c)
+    script.carry(0, needed)
+    script.carry(room + 9, needed + 3)
+
+
+def over_table(script, rng, c, rules, words, whole):
     words = words + [BEHIND] * rng.choice((0, 1, 8, 40))
     script.fill(words)
     lookups(script, rng, rules, 6)
@@ -199,29 +226,37 @@ def over_table(script, rng, c, rules, words):
     script.scan(rules, values_above(rng, values_near(rng, rules)))
     if c > 300:
         return
+    if not whole:
+        script.fill(words)
+        script.insert(Rule(65000, 1, *FULL))
+        script.fill(words)
+        script.carry(words_needed(c), c)
+        return
     readers(script, rng, rules)
-    freezes(script, len(image(tuple(rules))))
+    freezes(script, len(image(tuple(rules), kind_of(words))))
+    carries(script, rules)
     refused_edits(script, rng, rules)
     taken_edits(script, rng, c, rules, words)
 
 
-def over_damage(script, rng, c, rules, words):
+def over_damage(script, rng, c, rules, words, whole):
     """Words that are no store: damaged, or too few."""
     script.fill(damaged(rng, c, words) + [BEHIND] * rng.choice((0, 3)))
     lookups(script, rng, rules, 4)
-    if c > 300:
+    if c > 300 or not whole:
         return
-    bad = list(words)
-    bad[BEGIN] ^= 1
-    for length in (len(words), rng.choice((len(words) - 1, FRONT, 1, 0))):
+    kind, bad = kind_of(words), list(words)
+    bad[rng.choice((link_of(kind, BEGIN), KIND))] ^= 1
+    for length in (len(words), rng.choice((len(words) - 1, kind.front, 1, 0))):
         script.fill(bad, length)
         readers(script, rng, rules)
-        freezes(script, len(image(tuple(rules))))
+        freezes(script, len(image(tuple(rules), kind)))
+        carries(script, rules)
         refused_edits(script, rng, rules)
         lookups(script, rng, rules, 1)
 
 
-def over_maze(script, rng, c, rules, words):
+def over_maze(script, rng, c, rules, words, whole):
     """In each field one cell, all c, or a ring of them."""
     script.fill(maze(rng, c, words, 17) + [BEHIND] * 8)
     for values in ((1,) * 6, (0, 1, 0, 1, 1, 0), (1, 1, 18, 1, 1, 1), (18,) * 5 + (0,),
@@ -239,39 +274,42 @@ def over_maze(script, rng, c, rules, words):
 def freezes(script, total):
     """Into too few words, into as many as the image takes, and into more."""
     script.call(IMAGE_WORDS)
-    for room in (0, FRONT, total - 1, total, total + 9):
+    for room in (0, total // 2, total - 1, total, total + 9):
         script.freeze(room, total)
 
 
-def over_image(script, rng, c, rules, words):
+def over_image(script, rng, c, rules, words, whole):
     """The image of a table, the same damaged, and cut."""
-    words = list(image(tuple(rules)))
+    kind = kind_of(words)
+    front, words = kind.front, list(image(tuple(rules), kind))
     script.fill(words + [BEHIND] * rng.choice((0, 1, 16)))
     lookups(script, rng, rules, 6, image=True)
-    if c <= 300:
-        for length in (len(words), len(words) - 1, FRONT, 0):
+    if c <= 300 and whole:
+        for length in (len(words), len(words) - 1, front, 0):
             script.fill(words, length)
             script.call(IMAGE_CHECK)
             script.call(IMAGE_WORST)
-    blocks = (len(words) - FRONT) // BLOCK
+    blocks = (len(words) - front) // BLOCK
     for _ in range(3):
         bad = list(words)
         for _ in range(rng.choice((1, 5, 40, 200))):
-            place = FRONT + BLOCK * rng.randrange(blocks) + KEYS + rng.randrange(4)
+            place = front + BLOCK * rng.randrange(blocks) + KEYS + rng.randrange(4)
             bad[place] = rng.choice((0, 0, DOWN)) + rng.choice((
-                0, rng.randrange(blocks), blocks, place // BLOCK - FRONT // BLOCK))
+                0, rng.randrange(blocks), blocks, place // BLOCK - front // BLOCK))
             bad[place - KEYS] = rng.choice((0, 1, bad[place - KEYS], rng.getrandbits(32)))
-        bad[1] = rng.choice((bad[1], 0, 65))
-        script.fill(bad, rng.choice((len(bad),) * 4 + (len(bad) - 1, FRONT, FRONT - 1, 2)))
+        bad[1] = rng.choice((bad[1], 0, 65, 513))
+        if rng.random() < 0.1:
+            bad[KIND] = rng.choice((0, 1, 4, 5, rng.getrandbits(32)))
+        script.fill(bad, rng.choice((len(bad),) * 4 + (len(bad) - 1, front, front - 1, 2)))
         lookups(script, rng, rules, 3, image=True)
-        if c <= 300:
+        if c <= 300 and whole:
             script.call(IMAGE_CHECK)
             script.call(IMAGE_WORST)
 
 
 def over_rings(script, rng, words):
     """Blocks that lead round: in each field 8 of them and no more, and 8 that lead down."""
-    front = words[:FRONT]
+    front = words[:kind_of(words).front]
     for step in (1, 2, 7, 8, 9):
         blocks = [[0xFFFFFFFF] * KEYS + [b + 1 if (b + 1) % step else DOWN + b + 1] * KEYS
                   for b in range(6 * step)]
@@ -298,8 +336,9 @@ def all_calls(program, rng, count):
         over_table(script, rng, *table)
         over_damage(script, rng, *table)
         over_image(script, rng, *table)
-    over_rings(script, rng, list(image((default_rule(7),))))
-    for table in made[:2]:
+    for kind in KINDS:
+        over_rings(script, rng, list(image((default_rule(7),), kind)))
+    for table in made[:4]:
         over_maze(script, rng, *table)
     for numbers in ((0x0a000000, 24), (0x0a000001, 24), (0, 33)):
         script.call(PREFIX, *numbers)
@@ -341,7 +380,7 @@ def main():
     parser = argparse.ArgumentParser(description=__doc__,
                                      formatter_class=argparse.RawDescriptionHelpFormatter)
     parser.add_argument('--archive', default=ARCHIVE)
-    parser.add_argument('--tables', type=int, default=30)
+    parser.add_argument('--tables', type=int, default=24)
     parser.add_argument('--seed', type=int, default=None)
     parser.add_argument('--stop', type=int, default=12, help='tell of that many failures')
     options = parser.parse_args()

@@ -2,27 +2,30 @@
 
 Document 01 leaves the layout of a store to the project and has the answer of
 a lookup over words that fail the check follow the walk written in docs/. So
-this page is written from the manual, and laid.py from STORE.md; reference.py
-knows no layout.
+this page is written from the manual, with the places of words from laid.py, which is
+written from STORE.md; reference.py knows no layout.
 """
 
-from reference import read_header
+from laid import BEGIN, CELL, ROW, kind_of, link_of, row_of
+from reference import read_header, words_needed
 
 REFUSED = (9, 0, 0, 0)
 
 
 def walk(words, values):
     """(answer, rule, action, reads) for the words that a lookup is lent."""
-    if len(words) < 3 or words[2] != 0:
+    kind = kind_of(words)
+    if kind is None:
         return REFUSED
-    if not 6 <= words[0] <= 65536 or len(words) < 1024 + 8 * words[0]:
+    if not 6 <= words[0] <= 65536 or len(words) < words_needed(words[0], kind):
         return REFUSED
-    c, cell, reads = words[0], words[1023], 0
+    c, cell, reads = words[0], words[link_of(kind, BEGIN)], 0
     for value in values:
         for _ in range(c):
             if cell >= c:
                 return REFUSED
-            end, following, below = words[1024 + 8 * cell:1027 + 8 * cell]
+            at = kind.front + CELL * cell
+            end, following, below = words[at:at + 3]
             reads += 1
             if end >= value:
                 break
@@ -30,10 +33,11 @@ def walk(words, values):
         else:
             return REFUSED
         cell = below
-    place, rest = divmod(cell, 15)
-    if rest or place > words[1] or place > 64:
+    place, rest = divmod(cell, ROW)
+    if rest or place > words[1] or place > kind.rules:
         return REFUSED
-    return (0, words[47 + 15 * place], words[48 + 15 * place], reads)
+    row = row_of(kind, place)
+    return (0, words[row], words[row + 1], reads)
 
 
 def walk_packet(words, packet):

@@ -4,8 +4,9 @@ import itertools
 
 from dead import NONE, WORD, Grid, corners, loaded, spanned
 from edits import wander
+from laid import FREE, link_of, places_of, row_of
 from portless import rule_of
-from reference import (BENCH_RULES, PORTLESS, PORTS, TOPS, Rule, count_cells, default_rule,
+from reference import (BENCH_RULES, KINDS, PORTLESS, PORTS, TOPS, Rule, count_cells, default_rule,
                        winner_and_reads, words_needed, worst_record)
 from store import expect, fresh
 from tables import World, values_near
@@ -254,35 +255,39 @@ def worst_sixty_four(talk, rng):
 
 def worst_damage(talk, rng):
     """9 over every store that fails the check, with zeros, and no word changed."""
+    for kind in KINDS:
+        damage_of(talk, rng, kind)
+
+
+def damage_of(talk, rng, kind):
     rules = [rule_of(0, 1, (5, 9)), rule_of(300, 2, (6, 8), (1, WORD)), rule_of(65534, 3, (1, 2))]
-    store = loaded(talk, rng, rules)
-    n = words_needed(600)
+    store = loaded(talk, rng, rules, kind=kind)
+    n, row, front = words_needed(600, kind), row_of(kind, 1), kind.front
     want = most(12, 10, 0, 0, 0, 0, 0)
     expect(worst(store, rng) == want, 'the reference and the page')
     talk.get(store.id, 0, n)
     words = list(talk.flush()[-1])
-    used = words[1022]
+    used = words[link_of(kind, FREE)]
     # one word wrong, of every part of a store: the head, rows used and not, links, each word of
     # cells of the tree and of free ones
-    places = [*range(48), 49, 50, 60, 61, 64, 70, 76, 79, 91, 106, 107, 121, 122, 1000, 1021, 1022,
-              1023, *range(1024, 1040), *range(1024 + 8 * (used - 2), 1024 + 8 * (used + 2)),
-              *range(n - 8, n)]
+    places = [*range(48), *places_of(kind), *range(front, front + 16),
+              *range(front + 8 * (used - 2), front + 8 * (used + 2)), *range(n - 8, n)]
     for position in places:
         for wrong in (words[position] ^ 1, words[position] ^ 1 << rng.randrange(32)):
             talk.set(store.id, position, [wrong])
             talk.worst(store.id, REFUSED)
         talk.set(store.id, position, [words[position]])
     # words too few, all of them right
-    for length in (0, 1, 2, 3, 1023, 1024, 1072, n - 1):
+    for length in (0, 1, 2, 3, front - 1, front, front + 48, n - 1):
         talk.lend(store.id, length)
         talk.worst(store.id, REFUSED)
     talk.lend(store.id, n)
     talk.worst(store.id, want)
     # an action and a number that leave another store: the same answer
-    talk.set(store.id, 62, [7, 77])
+    talk.set(store.id, row, [7, 77])
     talk.worst(store.id, want)
-    talk.set(store.id, 62, words[62:64])
-    talk.same(store.id, loaded(talk, rng, rules).id, n)
+    talk.set(store.id, row, words[row:row + 2])
+    talk.same(store.id, loaded(talk, rng, rules, kind=kind).id, n)
     # more words than the store takes, whatever they hold
     longer = talk.make(n + 40, fill=rng.getrandbits(32))
     talk.copy(store.id, longer, n)

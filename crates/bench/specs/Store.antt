@@ -2,11 +2,15 @@
 -- Assumes nothing: these are definitions.
 use mathlib.Core.List.{List}
 use Prim.Native.Nat.{ℕ}
-use Rattle.model.specs.Table.{startAction}
-use Rattle.model.specs.Ipv4.{ipv4}
+use Rattle.model.specs.Table.{Rule, startAction}
+use Rattle.model.specs.Ipv4.{large, kindIn}
 use Rattle.model.specs.Bench.{rule10, rule20}
 use Rattle.layout.specs.Store.{startWords, insertWords}
 
--- "It starts a store of 1,920 cells without a default action, inserts rules 10 and 20": what the words hold then
+-- the words with a rule inserted
+abbrev pub inserted : List ℕ → Rule → List ℕ
+inserted ws r = insertWords (kindIn ws) ws r
+
+-- "It starts a store of 1,920 cells without a default action, inserts rules 10 and 20", and by P9 "the bench program's c becomes 1,024": what the words hold then
 abbrev pub benchWords : List ℕ → List ℕ
-benchWords ws = insertWords ipv4 (insertWords ipv4 (startWords ipv4 ws 1920 startAction) rule10) rule20
+benchWords ws = inserted (inserted (startWords large ws 1024 startAction) rule10) rule20

@@ -1,4 +1,4 @@
-// The bench program: starts a store of 1,920 cells, inserts rules 10 and 20, reads a classic capture from standard input and writes what the lookup says of each of its packets.
+// The bench program: starts a store of 1,024 cells, inserts rules 10 and 20, reads a classic capture from standard input and writes what the lookup says of each of its packets.
 //
 // Only reading, printing and the loop are here. What the bytes of a capture are is said by `capture`, what was read of a record and its line by `listing`, and what a packet gets by `lookup`. Memory is the same for a capture of any size.
 ghost use mathlib.Core.Path.{_≡_};
@@ -33,7 +33,7 @@ fn main() {
 fn fill(words: &mut [u32])
     ensures { λ _. ⌜ now (words .exit) ≡ benchWords (now (words .entry)) ⌝ }
 {
-    store::start(words, 1920, 0);
+    store::start(words, 1024, 0);
     store::insert(words, rule_10());
     store::insert(words, rule_20());
 }

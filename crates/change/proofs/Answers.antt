@@ -31,10 +31,10 @@ module _ (k : Kind) (ws : List ℕ) (c a : ℕ) where
   start-done h new e = (rw h, rw h e)
 
 -- THE WORDS: what an answer 0 leaves, and what a refusal does
-done : (a : ℕ) (h ws new : List ℕ) → 0 ≡ a → new ≡ h → new ≡ unless a h ws
+pub done : (a : ℕ) (h ws new : List ℕ) → 0 ≡ a → new ≡ h → new ≡ unless a h ws
 done a h ws new e q = rw (eq-eqb a 0 (sym e)) q
 
-kept : (a : ℕ) (h ws : List ℕ) (b : ℕ) → b ≡ a → (b ≡ 0 → ⊥) → ws ≡ unless a h ws
+pub kept : (a : ℕ) (h ws : List ℕ) (b : ℕ) → b ≡ a → (b ≡ 0 → ⊥) → ws ≡ unless a h ws
 kept a h ws b e n = rw (ne-eqb a 0 (λ z. n (e ∙ z)))
 
 module _ (k : Kind) (sh : Shaped k) (ws : List ℕ) (r : Rule) where

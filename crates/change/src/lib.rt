@@ -12,7 +12,7 @@ use decide::Decision;
 use table::Shape;
 
 // Plants the tree of the n rules of the rows in a store whose cells are all free.
-fn plant(
+pub fn plant(
     words: &mut [u32],
     c: u32,
     n: u32,

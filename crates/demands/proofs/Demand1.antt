@@ -13,7 +13,7 @@ use borrow.Author.Tests.{lt-ltb, ltb-true, ltb-false, leb-true, leb-false, eqb-t
 use Rattle.model.specs.Lists.{In}
 use Rattle.model.specs.Rules.{rangesRight}
 use Rattle.model.specs.Table.{Kind, Rule, Table, Shaped, fields, portsRight, ruleRight, stands, withRule, cellsOf, insertAnswer, deleteAnswer, placeAnswer}
-use Rattle.model.specs.Ipv4.{ipv4, ipv4-shaped}
+use Rattle.model.specs.Ipv4.{large, kindIn, ipv4-shaped}
 use Rattle.model.proofs.Tests.{by-test, never, and-left, and-right}
 use Rattle.model.proofs.UpTo.{length-upTo}
 use Rattle.model.proofs.Limits.{standing, not-standing}
@@ -25,6 +25,7 @@ use Rattle.lookup.proofs.Steps.{wrong-11, right-in}
 use Rattle.demands.specs.Calls.{Passes, fieldCount, lowAt, highAt, topAt, FullPorts, PortsOnly, NoRoom, valuesIn, lookup}
 use Rattle.demands.specs.Links.{Undecided}
 use Rattle.demands.specs.Demand1.{Refuses, refuses, goes-on, done, WrongRange, WrongPorts, Spares, OnlyAnswer, Demand1}
+use Rattle.demands.proofs.KindNamed.{shaped-in}
 use Rattle.demands.proofs.Fields.{says-no, ports-say, wrong-from, right-from}
 use Rattle.demands.proofs.Held.{Leaves, refused-keeps, start-leaves, insert-leaves, delete-leaves}
 use Rattle.demands.proofs.Room.{no-room, room-there}
@@ -34,7 +35,7 @@ use Rattle.demands.proofs.Answers.{Answers, lookup-lines, right-lines, 
 use Rattle.demands.proofs.Tally.{tally-before, tally-13, tally-zeros, tally-kept}
 
 -- one line of the table, decided by a test; and by a test that says yes where the call goes on
-line : {P : Type 0} {others : ℕ → Type 0} (b : Bool) (n x : ℕ) → (b ≡ true → P) → (b ≡ false → P → ⊥) → others x → Refuses n P others (cond b n x)
+pub line : {P : Type 0} {others : ℕ → Type 0} (b : Bool) (n x : ℕ) → (b ≡ true → P) → (b ≡ false → P → ⊥) → others x → Refuses n P others (cond b n x)
 line true n x t f o = refuses (t refl) refl
 line false n x t f o = goes-on (f refl) o
 
@@ -110,7 +111,7 @@ module _ (k : Kind) where
       refl
 
   -- what a start and the edits keep
-  spares : (c a : ℕ) (new ws : List ℕ) → (a ≡ 0 → (t : Table) × Leaves k ws (unless a new ws) c t) → Spares k c a ws (unless a new ws)
+  pub spares : (c a : ℕ) (new ws : List ℕ) → (a ≡ 0 → (t : Table) × Leaves k ws (unless a new ws) c t) → Spares k c a ws (unless a new ws)
   spares c a new ws h =
       record {
         unchanged = refused-keeps a new ws;
@@ -136,8 +137,8 @@ module _ (k : Kind) where
 store-answers : (k : Kind) (s : Shaped k) (ws vs : List ℕ) → length vs ≡ fieldCount k → Answers k vs (Undecided k ws vs) (fieldCount k * cellsIn ws) (lookupIn k ws vs) (lookupValues k ws vs)
 store-answers k s ws vs n = record { right = right-in k ws vs; wrong = wrong-11 k ws vs; nine-or-done = rw n at (nine-or-done k s ws vs); nine = undecided-9 k s ws vs }
 
-record-answers : (ws : List ℕ) (p : Packet) → Answers ipv4 (valuesIn p) (Undecided ipv4 ws (valuesIn p)) (fieldCount ipv4 * cellsIn ws) (lookupIn ipv4 ws (valuesIn p)) (lookup ws p)
-record-answers ws p = store-answers ipv4 ipv4-shaped ws (valuesIn p) refl
+record-answers : (ws : List ℕ) (p : Packet) → Answers (kindIn ws) (valuesIn p) (Undecided (kindIn ws) ws (valuesIn p)) (fieldCount (kindIn ws) * cellsIn ws) (lookupIn (kindIn ws) ws (valuesIn p)) (lookup ws p)
+record-answers ws p = store-answers (kindIn ws) (shaped-in ws) ws (valuesIn p) refl
 
 store-header : (ws bytes : List ℕ) → ByHeader (lookup ws) bytes (lookupPacket ws bytes)
 store-header ws bytes = record { unread = refused-by ws bytes; read = readable-is ws bytes }
@@ -147,25 +148,24 @@ store-zeros ws bytes = packet-zeros (store-header ws bytes) (λ p. zeros (record
 
 pub demand1 : Demand1
 demand1 =
-    let s = ipv4-shaped in
     record {
-      start = start-lines ipv4;
-      start-spares = λ ws c a. spares ipv4 c (startAnswer ipv4 ws c) _ ws (λ h. (_, start-leaves ipv4 s ws c a h));
+      start = start-lines large;
+      start-spares = λ ws c a. spares large c (startAnswer large ws c) _ ws (λ h. (_, start-leaves large (ipv4-shaped true) ws c a h));
       all-ends = λ g. (length-upTo _ (λ i. getD (g .low) i 0), length-upTo _ (λ i. getD (g .high) i 0));
-      insert = λ ws r l h. check-line ipv4 ws _ (insert-lines ipv4 (cellsIn ws) (tableOf ipv4 ws) r l h);
-      insert-spares = λ ws r. spares ipv4 (cellsIn ws) (insertSays ipv4 ws r) _ ws (λ h. (_, insert-leaves ipv4 s ws r h));
-      delete = λ ws n. check-line ipv4 ws _ (delete-lines ipv4 (tableOf ipv4 ws) n);
-      delete-spares = λ ws n. spares ipv4 (cellsIn ws) (deleteSays ipv4 ws n) _ ws (λ h. (_, delete-leaves ipv4 s ws n h));
-      read = λ ws n h. rw (ne-eqb n 65535 h) (check-line ipv4 ws _ (delete-lines ipv4 (tableOf ipv4 ws) n));
-      read-default = λ ws. check-line ipv4 ws 0 refl;
-      read-zeros = read-zeros ipv4;
-      rule-at = λ ws p. check-line ipv4 ws _ (place-lines ipv4 (tableOf ipv4 ws) p);
-      rule-at-zeros = rule-at-zeros ipv4;
-      cells = λ ws. check-line ipv4 ws 0 refl;
-      cells-zeros = cells-zeros ipv4;
+      insert = λ ws r l h. check-line (kindIn ws) ws _ (insert-lines (kindIn ws) (cellsIn ws) (tableOf (kindIn ws) ws) r l h);
+      insert-spares = λ ws r. spares (kindIn ws) (cellsIn ws) (insertSays (kindIn ws) ws r) _ ws (λ h. (_, insert-leaves (kindIn ws) (shaped-in ws) ws r h));
+      delete = λ ws n. check-line (kindIn ws) ws _ (delete-lines (kindIn ws) (tableOf (kindIn ws) ws) n);
+      delete-spares = λ ws n. spares (kindIn ws) (cellsIn ws) (deleteSays (kindIn ws) ws n) _ ws (λ h. (_, delete-leaves (kindIn ws) (shaped-in ws) ws n h));
+      read = λ ws n h. rw (ne-eqb n 65535 h) (check-line (kindIn ws) ws _ (delete-lines (kindIn ws) (tableOf (kindIn ws) ws) n));
+      read-default = λ ws. check-line (kindIn ws) ws 0 refl;
+      read-zeros = λ ws. read-zeros (kindIn ws) ws;
+      rule-at = λ ws p. check-line (kindIn ws) ws _ (place-lines (kindIn ws) (tableOf (kindIn ws) ws) p);
+      rule-at-zeros = λ ws. rule-at-zeros (kindIn ws) ws;
+      cells = λ ws. check-line (kindIn ws) ws 0 refl;
+      cells-zeros = λ ws. cells-zeros (kindIn ws) ws;
       lookup-answer = λ ws p. lookup-lines (record-answers ws p) refl;
       lookup-zeros = λ ws p. zeros (record-answers ws p);
-      packet-answer = λ ws bytes. packet-lines (store-header ws bytes) (λ p. Refuses 9 (Undecided ipv4 ws (valuesIn p)) done) (λ p t. right-lines (record-answers ws p) (tops-right p t));
+      packet-answer = λ ws bytes. packet-lines (store-header ws bytes) (λ p. Refuses 9 (Undecided (kindIn ws) ws (valuesIn p)) done) (λ p t. right-lines (record-answers ws p) (tops-right p t));
       packet-zeros = store-zeros;
       lookup-reads = λ ws p. few-reads (record-answers ws p);
       packet-reads = λ ws bytes. packet-reads (store-header ws bytes) _ (λ p. few-reads (record-answers ws p));

@@ -11,7 +11,7 @@ use lib.ListN.{length, getD}
 use borrow.Author.Tests.{ltb-false, le-ltb, eqb-true, eqb-false, eq-eqb, ne-eqb}
 use Rattle.model.specs.Lists.{In}
 use Rattle.model.specs.Table.{Kind, Rule, Table, Shaped, defaultRule, winnerOf, packetRight, stands, deleteAnswer, readAnswer, placeAnswer}
-use Rattle.model.specs.Ipv4.{ipv4, ipv4-shaped}
+use Rattle.model.specs.Ipv4.{ipv4, large, kindIn, ipv4-shaped}
 use Rattle.model.proofs.Tests.{by-test, never}
 use Rattle.model.proofs.UpTo.{upTo-is}
 use Rattle.model.proofs.Keep.{in-left, in-right, in-getD, at-place}
@@ -29,6 +29,7 @@ use Rattle.lookup.specs.Walk.{lookupValues, lookupPacket}
 use Rattle.demands.specs.Calls.{Passes, rulesIn, defaultIn, everyIn, fieldCount, valuesIn, Bytes, lookup}
 use Rattle.demands.specs.Demand2.{Names, Edited, Fresh, Listed, AllEnds, Demand2}
 use Rattle.demands.proofs.Held.{Leaves, right, in-use, checked-0, start-leaves, insert-leaves, delete-leaves}
+use Rattle.demands.proofs.KindNamed.{shaped-in, insert-large, delete-large, start-large}
 use Rattle.demands.proofs.Fields.{all-held, held-all}
 use Rattle.demands.proofs.Packets.{tops-right, readable-is}
 use Rattle.demands.proofs.Decided.{lookup-is}
@@ -45,11 +46,11 @@ only-default t n e a = go (eqb n 65535) refl (ltb 65534 n) (stands n (t .rules))
     go false q false false f z = absurd (omega arith)
 
 module _ (k : Kind) (s : Shaped k) where
-  default-in : (ws : List ℕ) → In (defaultRule k (defaultIn k ws)) (everyIn k ws)
+  pub default-in : (ws : List ℕ) → In (defaultRule k (defaultIn k ws)) (everyIn k ws)
   default-in ws = in-right (rulesIn k ws) _ _ (inl refl)
 
   -- THE RULE THAT DECIDES is the right one
-  names : (ws : List ℕ) → Passes k ws → (vs : List ℕ) → packetRight k vs ≡ true → Names k ws vs (lookupValues k ws vs)
+  pub names : (ws : List ℕ) → Passes k ws → (vs : List ℕ) → packetRight k vs ≡ true → Names k ws vs (lookupValues k ws vs)
   names ws h vs v =
       let t = tableOf k ws in
       let w = winnerOf k t vs in
@@ -133,20 +134,20 @@ module _ (k : Kind) (s : Shaped k) where
     }
 
 -- THE LIBRARY'S RULES as structs: six numbers are read of each array, which has no more
-six-one : (xs ys : List ℕ) → length xs ≡ fieldCount ipv4 → length ys ≡ fieldCount ipv4 → six xs ≡ six ys → xs ≡ ys
-six-one xs ys l m e = upTo-is 0 xs (fieldCount ipv4) (λ i. getD xs i 0) l (λ i h. refl) ∙ e ∙ sym (upTo-is 0 ys (fieldCount ipv4) (λ i. getD ys i 0) m (λ i h. refl))
+six-one : (xs ys : List ℕ) → length xs ≡ fieldCount large → length ys ≡ fieldCount large → six xs ≡ six ys → xs ≡ ys
+six-one xs ys l m e = upTo-is 0 xs (fieldCount large) (λ i. getD xs i 0) l (λ i h. refl) ∙ e ∙ sym (upTo-is 0 ys (fieldCount large) (λ i. getD ys i 0) m (λ i h. refl))
 
-one-struct : (g h : Given) → AllEnds ipv4 g → AllEnds ipv4 h → given g ≡ given h → g ≡ h
+one-struct : (g h : Given) → AllEnds large g → AllEnds large h → given g ≡ given h → g ≡ h
 one-struct g h a b e =
     let x = six-one (g .low) (h .low) (a .lows) (b .lows) (ap (λ (r : Rule). r .lows) e) in
     let y = six-one (g .high) (h .high) (a .highs) (b .highs) (ap (λ (r : Rule). r .highs) e) in
     λ i. record { number = e i .number; action = e i .action; low = x i; high = y i }
 
 -- THE LIBRARY'S LOOKUPS
-record-names : (ws : List ℕ) → Passes ipv4 ws → (p : Packet) → WithinTops p → Names ipv4 ws (valuesIn p) (lookup ws p)
-record-names ws h p t = names ipv4 ipv4-shaped ws h (valuesIn p) (tops-right p t)
+record-names : (ws : List ℕ) → Passes (kindIn ws) ws → (p : Packet) → WithinTops p → Names (kindIn ws) ws (valuesIn p) (lookup ws p)
+record-names ws h p t = names (kindIn ws) (shaped-in ws) ws h (valuesIn p) (tops-right p t)
 
-packet-names : (ws : List ℕ) → Passes ipv4 ws → (bytes : List ℕ) → Bytes bytes → (p : Packet) → headerOf bytes ≡ Values p → WithinTops p × Names ipv4 ws (valuesIn p) (lookupPacket ws bytes)
+packet-names : (ws : List ℕ) → Passes (kindIn ws) ws → (bytes : List ℕ) → Bytes bytes → (p : Packet) → headerOf bytes ≡ Values p → WithinTops p × Names (kindIn ws) ws (valuesIn p) (lookupPacket ws bytes)
 packet-names ws h bytes b p e = let t = within-tops bytes p b e in (t, rw (readable-is ws bytes p e) (record-names ws h p t))
 
 pub demand2 : Demand2
@@ -155,13 +156,16 @@ demand2 =
       by-values = record-names;
       by-packet = packet-names;
       by-tally = λ ws h bytes b p e t. ⊎-elim inl (λ q. inr (rw q (packet-names ws h bytes b p e .1))) (tally-same ws bytes t);
-      default = default-in ipv4 ipv4-shaped;
-      insert = inserted ipv4 ipv4-shaped;
-      delete = deleted ipv4 ipv4-shaped;
-      start = started ipv4 ipv4-shaped;
-      start-cells = started-cells ipv4 ipv4-shaped;
-      delete-cells = deleted-cells ipv4 ipv4-shaped;
-      read = read-right ipv4 ipv4-shaped;
-      rule-at = listed ipv4 ipv4-shaped;
+      default = λ ws. default-in (kindIn ws) (shaped-in ws) ws;
+      insert = λ ws. inserted (kindIn ws) (shaped-in ws) ws;
+      insert-kind = λ ws r. ap ipv4 (insert-large ws r);
+      delete = λ ws. deleted (kindIn ws) (shaped-in ws) ws;
+      delete-kind = λ ws n. ap ipv4 (delete-large ws n);
+      start = started large (ipv4-shaped true);
+      start-kind = λ ws c a h. ap ipv4 (start-large true ws c a h);
+      start-cells = started-cells large (ipv4-shaped true);
+      delete-cells = λ ws. deleted-cells (kindIn ws) (shaped-in ws) ws;
+      read = λ ws. read-right (kindIn ws) (shaped-in ws) ws;
+      rule-at = λ ws. listed (kindIn ws) (shaped-in ws) ws;
       read-one = one-struct;
     }

@@ -113,7 +113,7 @@ module _ (k : Kind) (s : Shaped k) where
     fits = sound-most k s ws (sound k s ws h)
 
   -- AN ACCEPTED START, INSERT AND DELETE
-  leaves : (ws : List ℕ) (c : ℕ) (t : Table) → Roomy k c ws → within k t ≡ true → cellsOf k t ≤ c → Leaves k ws (holding k c t ws) c t
+  pub leaves : (ws : List ℕ) (c : ℕ) (t : Table) → Roomy k c ws → within k t ≡ true → cellsOf k t ≤ c → Leaves k ws (holding k c t ws) c t
   leaves ws c t r w fit =
       let rest = drop (size k c) ws in
       let n = text-length c t w fit in

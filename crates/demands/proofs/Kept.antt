@@ -11,7 +11,7 @@ use lib.ListN.{length, getD, length-append, length-map, getD-replicate}
 use borrow.Author.Tests.{leb-true, leb-false, eqb-true, eqb-false, ne-eqb}
 use Rattle.model.specs.Lists.{In, Sub, keep}
 use Rattle.model.specs.Table.{Kind, Rule, Table, Shaped, numberOf, defaultRule, everyRule, packetRight, withRule, without}
-use Rattle.model.specs.Ipv4.{ipv4, ipv4-shaped}
+use Rattle.model.specs.Ipv4.{kindIn}
 use Rattle.model.proofs.Tests.{by-test}
 use Rattle.model.proofs.Keep.{in-keep, length-keep, in-left, in-right, at-place}
 use Rattle.model.proofs.Limits.{from-within, from-every}
@@ -24,6 +24,7 @@ use Rattle.tally.specs.declared.Tallies.{Tallies}
 use Rattle.tally.specs.Tally.{begunIn, tallyAnswer, talliesLeft, cleared}
 use Rattle.demands.specs.Calls.{Passes, rulesIn, everyIn, valuesIn}
 use Rattle.demands.specs.Tally.{keyAt, HoldsAt, NoPlace, WellKept, Dropped}
+use Rattle.demands.proofs.KindNamed.{shaped-in}
 use Rattle.demands.proofs.Held.{right, insert-leaves, delete-leaves}
 use Rattle.lookup.proofs.Steps.{wrong-11}
 use Rattle.demands.proofs.Packets.{refused-by, readable-is, by-header}
@@ -127,16 +128,16 @@ module _ (k : Kind) (s : Shaped k) where
           (e, λ q. apart (omega (arith, e), q))
 
 -- THE LIBRARY'S LOOKUPS
-packet-named : (ws : List ℕ) → Passes ipv4 ws → (bytes : List ℕ) → lookupPacket ws bytes .answer ≡ 0 → In (lookupPacket ws bytes .rule) (map numberOf (everyIn ipv4 ws))
-packet-named ws h bytes = by-header (lookupPacket ws bytes .answer ≡ 0 → In (lookupPacket ws bytes .rule) (map numberOf (everyIn ipv4 ws))) bytes
+packet-named : (ws : List ℕ) → Passes (kindIn ws) ws → (bytes : List ℕ) → lookupPacket ws bytes .answer ≡ 0 → In (lookupPacket ws bytes .rule) (map numberOf (everyIn (kindIn ws) ws))
+packet-named ws h bytes = by-header (lookupPacket ws bytes .answer ≡ 0 → In (lookupPacket ws bytes .rule) (map numberOf (everyIn (kindIn ws) ws))) bytes
     (λ g u n e. absurd (n (sym (ap (λ (f : Found). f .answer) (refused-by ws bytes g u n)) ∙ e)))
-    (λ p u. rw (readable-is ws bytes p u) (named-in ipv4 ipv4-shaped ws h (valuesIn p)))
+    (λ p u. rw (readable-is ws bytes p u) (named-in (kindIn ws) (shaped-in ws) ws h (valuesIn p)))
 
-pub never-13 : (ws : List ℕ) → Passes ipv4 ws → (t : Tallies) → ipv4 .most < length (t .key) → WellKept ipv4 ws t → (bytes : List ℕ) → tallyAnswer ws bytes t ≡ lookupPacket ws bytes
-never-13 ws h t l w bytes = by-look ws bytes t (λ g u. g ≡ lookupPacket ws bytes) (λ n. refl) (λ e p. absurd (has-room ipv4 ipv4-shaped ws h t l w _ (packet-named ws h bytes e) p)) (λ e i f. refl) (λ e none i f. refl)
+pub never-13 : (ws : List ℕ) → Passes (kindIn ws) ws → (t : Tallies) → kindIn ws .most < length (t .key) → WellKept (kindIn ws) ws t → (bytes : List ℕ) → tallyAnswer ws bytes t ≡ lookupPacket ws bytes
+never-13 ws h t l w bytes = by-look ws bytes t (λ g u. g ≡ lookupPacket ws bytes) (λ n. refl) (λ e p. absurd (has-room (kindIn ws) (shaped-in ws) ws h t l w _ (packet-named ws h bytes e) p)) (λ e i f. refl) (λ e none i f. refl)
 
-pub looked-kept : (ws : List ℕ) → Passes ipv4 ws → (bytes : List ℕ) (t : Tallies) → WellKept ipv4 ws t → WellKept ipv4 ws (talliesLeft ws bytes t)
-looked-kept ws h bytes t w = by-look ws bytes t (λ g u. WellKept ipv4 ws u) (λ n. w) (λ e p. w) (λ e i f. record { once = w .once; ours = w .ours })
+pub looked-kept : (ws : List ℕ) → Passes (kindIn ws) ws → (bytes : List ℕ) (t : Tallies) → WellKept (kindIn ws) ws t → WellKept (kindIn ws) ws (talliesLeft ws bytes t)
+looked-kept ws h bytes t w = by-look ws bytes t (λ g u. WellKept (kindIn ws) ws u) (λ n. w) (λ e p. w) (λ e i f. record { once = w .once; ours = w .ours })
     (λ e none i f.
     let n = lookupPacket ws bytes .rule in
     let u = begunIn i n t in
@@ -153,7 +154,7 @@ looked-kept ws h bytes t w = by-look ws bytes t (λ g u. WellKept ipv4 ws u) (λ
           (λ d. let y = q ∙ ap (keyAt u) (eqb-true b i d) ∙ here in absurd (no-other a (omega (arith, long)) (eqb-false a i c) (omega arith) y))
           (λ d. let y = there a (eqb-false a i c) in w .once a b (omega (arith, long)) (omega (arith, long)) (omega arith) (sym y ∙ q ∙ there b (eqb-false b i d))));
       ours = λ a la x. by-test (eqb a i)
-          (λ c. subst (λ (y : ℕ). In y (map numberOf (everyIn ipv4 ws))) (sym (ap (keyAt u) (eqb-true a i c) ∙ here)) (packet-named ws h bytes e))
+          (λ c. subst (λ (y : ℕ). In y (map numberOf (everyIn (kindIn ws) ws))) (sym (ap (keyAt u) (eqb-true a i c) ∙ here)) (packet-named ws h bytes e))
           (λ c. let y = there a (eqb-false a i c) in rw y (w .ours a (omega (arith, long)) (omega arith)));
     })
 

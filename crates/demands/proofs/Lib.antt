@@ -1,6 +1,7 @@
 pub mod Fields
 pub mod Room
 pub mod Held
+pub mod KindNamed
 pub mod Packets
 pub mod Looked
 pub mod Lost
@@ -29,4 +30,5 @@ pub mod Strayed
 pub mod Imaged
 pub mod Frozen
 pub mod Deepest
+pub mod Carry
 pub mod Shown

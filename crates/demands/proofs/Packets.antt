@@ -8,7 +8,7 @@ use Prim.Native.Nat.{ℕ}
 use native.Mathlib.Omega.{arith}
 use borrow.Author.Tests.{le-leb}
 use Rattle.model.specs.Table.{packetRight}
-use Rattle.model.specs.Ipv4.{ipv4}
+use Rattle.model.specs.Ipv4.{large}
 use Rattle.header.specs.declared.Packet.{Packet}
 use Rattle.header.specs.declared.Header.{Header}
 use Rattle.header.specs.declared.Header.the-variants.{Values, Unreadable, Cut}
@@ -18,7 +18,7 @@ use Rattle.lookup.specs.Walk.{refused, lookupPacket}
 use Rattle.lookup.proofs.Steps.{no-values, by-values}
 use Rattle.demands.specs.Calls.{valuesIn, lookup}
 
-pub tops-right : (p : Packet) → WithinTops p → packetRight ipv4 (valuesIn p) ≡ true
+pub tops-right : (p : Packet) → WithinTops p → packetRight large (valuesIn p) ≡ true
 tops-right p t = simp (le-leb _ _ (t .destination-top), le-leb _ _ (t .source-top), le-leb _ _ (t .protocol-top), le-leb _ _ (t .destination-port-top), le-leb _ _ (t .source-port-top), le-leb _ _ (t .portless-top))
 
 -- THE LOOKUP BY A PACKET: the number of the header's case where that gives no values, and else the lookup of its values

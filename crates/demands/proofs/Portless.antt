@@ -7,7 +7,7 @@ use Prim.Native.Nat.{ℕ, _≤_}
 use native.Mathlib.Omega.{arith}
 use Rattle.model.specs.Lists.{In}
 use Rattle.model.specs.Table.{Rule, Table}
-use Rattle.model.specs.Ipv4.{ipv4, ipv4-shaped}
+use Rattle.model.specs.Ipv4.{kindIn}
 use Rattle.header.specs.declared.Packet.{Packet}
 use Rattle.header.specs.declared.Header.the-variants.{Values}
 use Rattle.header.specs.Header.{hasPorts, unreadable, packetOf, headerOf}
@@ -17,6 +17,7 @@ use Rattle.lookup.specs.declared.Found.{Found}
 use Rattle.lookup.specs.Walk.{lookupPacket}
 use Rattle.demands.specs.Calls.{Passes, rulesIn, HoldsAll, PortsOnly, FullPorts, valuesIn, Bytes}
 use Rattle.demands.specs.Portless.{example, echo, transfer, laterFragment, Portless}
+use Rattle.demands.proofs.KindNamed.{shaped-in}
 use Rattle.demands.proofs.Packets.{tops-right, readable-is}
 use Rattle.demands.proofs.Decided.{foundOf, lookup-is}
 use Rattle.demands.proofs.Check.{check}
@@ -28,17 +29,17 @@ without bytes b p e n =
     let q = portless-ports bytes p e one in
     (one, q .0, q .1)
 
-asked : (ws : List ℕ) → Passes ipv4 ws → (r : Rule) → In r (rulesIn ipv4 ws) → (FullPorts ipv4 r → ⊥) → (bytes : List ℕ) (p : Packet) → headerOf bytes ≡ Values p → HoldsAll ipv4 (valuesIn p) r → Ported bytes
+asked : (ws : List ℕ) → Passes (kindIn ws) ws → (r : Rule) → In r (rulesIn (kindIn ws) ws) → (FullPorts (kindIn ws) r → ⊥) → (bytes : List ℕ) (p : Packet) → headerOf bytes ≡ Values p → HoldsAll (kindIn ws) (valuesIn p) r → Ported bytes
 asked ws h r m n bytes p e a =
     ⊎-elim
-    (λ (o : PortsOnly ipv4 r). portless-when bytes p e .0 (omega (arith, o .1, a 5 (omega arith) .1)))
-    (λ (f : FullPorts ipv4 r). absurd (n f))
-    (check ipv4 ipv4-shaped .sound ws h .ports r m)
+    (λ (o : PortsOnly (kindIn ws) r). portless-when bytes p e .0 (omega (arith, o .1, a 5 (omega arith) .1)))
+    (λ (f : FullPorts (kindIn ws) r). absurd (n f))
+    (check (kindIn ws) (shaped-in ws) .sound ws h .ports r m)
 
 -- THE EXAMPLE
-module _ (ws : List ℕ) (h : Passes ipv4 ws) (t : tableOf ipv4 ws ≡ example) where
-  found : (bytes : List ℕ) (p : Packet) → WithinTops p → headerOf bytes ≡ Values p → lookupPacket ws bytes ≡ foundOf ipv4 example (valuesIn p)
-  found bytes p w e = readable-is ws bytes p e ∙ lookup-is ipv4 ipv4-shaped ws h (valuesIn p) (tops-right p w) ∙ ap (λ (x : Table). foundOf ipv4 x (valuesIn p)) t
+module _ (ws : List ℕ) (h : Passes (kindIn ws) ws) (t : tableOf (kindIn ws) ws ≡ example) where
+  found : (bytes : List ℕ) (p : Packet) → WithinTops p → headerOf bytes ≡ Values p → lookupPacket ws bytes ≡ foundOf (kindIn ws) example (valuesIn p)
+  found bytes p w e = readable-is ws bytes p e ∙ lookup-is (kindIn ws) (shaped-in ws) ws h (valuesIn p) (tops-right p w) ∙ ap (λ (x : Table). foundOf (kindIn ws) x (valuesIn p)) t
 
   -- a packet from 192.168.1.9 to 10.0.0.5
   abbrev record-of : ℕ → ℕ → ℕ → ℕ → Packet

@@ -11,7 +11,7 @@ use borrow.Author.Tests.{le-leb}
 use Rattle.model.specs.Lists.{In, Same, keep, least}
 use Rattle.model.specs.Rules.{holds, winner}
 use Rattle.model.specs.Table.{Kind, Rule, Table, Shaped, numberOf, fields, defaultRule, everyRule, winnerOf, packetRight}
-use Rattle.model.specs.Ipv4.{ipv4, ipv4-shaped}
+use Rattle.model.specs.Ipv4.{large, kindIn}
 use Rattle.model.proofs.Tests.{by-test}
 use Rattle.model.proofs.UpTo.{length-upTo, upTo-is, in-upTo}
 use Rattle.model.proofs.Keep.{from-keep, keep-append, in-left}
@@ -34,6 +34,7 @@ use Rattle.scan.specs.Scan.{firstLeast, decider, named, rulesOf, noWinner, scan
 use Rattle.scan.proofs.Least.{behind}
 use Rattle.demands.specs.Calls.{Passes, rulesIn, defaultIn, fieldCount, HoldsAll, AboveTop, valuesIn, lookup}
 use Rattle.demands.specs.Scan.{scan, Agree, recordOf, recordsOf, Decides, NamesRule, Scan}
+use Rattle.demands.proofs.KindNamed.{shaped-in}
 use Rattle.demands.proofs.Held.{right}
 use Rattle.demands.proofs.Fields.{not-above}
 use Rattle.lookup.proofs.Steps.{wrong-11}
@@ -88,50 +89,50 @@ module _ (k : Kind) (s : Shaped k) (ws : List ℕ) (h : Passes k ws) (rs : List 
 
 -- THE LIBRARY'S SCAN of a packet's record, by its tops
 module _ (records : List Given) (a : ℕ) (p : Packet) where
-  scan-right : packetRight ipv4 (valuesIn p) ≡ true → scan records a p ≡ named (decider (rulesOf records) a p)
+  scan-right : packetRight large (valuesIn p) ≡ true → scan records a p ≡ named (decider (rulesOf records) a p)
   unfolding scanValues
   scan-right e = rw e
 
-  scan-wrong : packetRight ipv4 (valuesIn p) ≡ false → scan records a p ≡ noWinner 11
+  scan-wrong : packetRight large (valuesIn p) ≡ false → scan records a p ≡ noWinner 11
   unfolding scanValues
   scan-wrong e = rw e
 
   -- what it names, for any list
-  names : WithinTops p → (scan records a p .answer ≡ 0) × NamesRule ipv4 (rulesOf records) a (valuesIn p) (scan records a p)
+  names : WithinTops p → (scan records a p .answer ≡ 0) × NamesRule large (rulesOf records) a (valuesIn p) (scan records a p)
   names t =
       let w = decider (rulesOf records) a p in
-      subst (λ (x : Winner). (x .answer ≡ 0) × NamesRule ipv4 (rulesOf records) a (valuesIn p) x) (sym (scan-right (tops-right p t))) (
+      subst (λ (x : Winner). (x .answer ≡ 0) × NamesRule large (rulesOf records) a (valuesIn p) x) (sym (scan-right (tops-right p t))) (
         refl,
-        ⊎-elim (λ (d : Decides ipv4 (rulesOf records) (valuesIn p) w). inl (w, d, refl, refl))
-            (λ (n : ((r : Rule) → In r (rulesOf records) → HoldsAll ipv4 (valuesIn p) r → ⊥) × (w ≡ defaultRule ipv4 a)). inr (n .0, ap numberOf (n .1), ap actionOf (n .1)))
-            (scans ipv4 (valuesIn p) (defaultRule ipv4 a) (rulesOf records) w refl),
+        ⊎-elim (λ (d : Decides large (rulesOf records) (valuesIn p) w). inl (w, d, refl, refl))
+            (λ (n : ((r : Rule) → In r (rulesOf records) → HoldsAll large (valuesIn p) r → ⊥) × (w ≡ defaultRule large a)). inr (n .0, ap numberOf (n .1), ap actionOf (n .1)))
+            (scans large (valuesIn p) (defaultRule large a) (rulesOf records) w refl),
       )
 
-  above : AboveTop ipv4 (valuesIn p) → scan records a p ≡ noWinner 11
-  above t = by-test (packetRight ipv4 (valuesIn p)) (λ e. absurd (not-above ipv4 (valuesIn p) e t)) scan-wrong
+  above : AboveTop large (valuesIn p) → scan records a p ≡ noWinner 11
+  above t = by-test (packetRight large (valuesIn p)) (λ e. absurd (not-above large (valuesIn p) e t)) scan-wrong
 
 -- what is said of two answers is said of what they are
 carried : {f g : Found} {w v : Winner} → f ≡ g → w ≡ v → Agree g v → Agree f w
 carried {f} {g} {w} {v} e d a = subst (λ (x : Found). Agree x w) (sym e) (subst (Agree g) (sym d) a)
 
-agree : (ws : List ℕ) → Passes ipv4 ws → (records : List Given) → Same (rulesOf records) (rulesIn ipv4 ws) → (p : Packet) → Agree (lookup ws p) (scan records (defaultIn ipv4 ws) p)
-agree ws h records same p = by-test (packetRight ipv4 (valuesIn p))
+agree : (ws : List ℕ) → Passes (kindIn ws) ws → (records : List Given) → Same (rulesOf records) (rulesIn (kindIn ws) ws) → (p : Packet) → Agree (lookup ws p) (scan records (defaultIn (kindIn ws) ws) p)
+agree ws h records same p = by-test (packetRight (kindIn ws) (valuesIn p))
     (λ e.
-    let d = decider-is ipv4 ipv4-shaped ws h (rulesOf records) same (valuesIn p) e in
-    carried (lookup-is ipv4 ipv4-shaped ws h (valuesIn p) e) (scan-right records (defaultIn ipv4 ws) p e) (record { answer = refl; rule = ap numberOf d; action = ap actionOf d }))
-    (λ e. carried (wrong-11 ipv4 ws (valuesIn p) e) (scan-wrong records (defaultIn ipv4 ws) p e) (record { answer = refl; rule = refl; action = refl }))
+    let d = decider-is (kindIn ws) (shaped-in ws) ws h (rulesOf records) same (valuesIn p) e in
+    carried (lookup-is (kindIn ws) (shaped-in ws) ws h (valuesIn p) e) (scan-right records (defaultIn (kindIn ws) ws) p e) (record { answer = refl; rule = ap numberOf d; action = ap actionOf d }))
+    (λ e. carried (wrong-11 (kindIn ws) ws (valuesIn p) e) (scan-wrong records (defaultIn (kindIn ws) ws) p e) (record { answer = refl; rule = refl; action = refl }))
 
-packet-agrees : (ws : List ℕ) → Passes ipv4 ws → (records : List Given) → Same (rulesOf records) (rulesIn ipv4 ws) → (bytes : List ℕ) (p : Packet) → headerOf bytes ≡ Values p
-    → Agree (lookupPacket ws bytes) (scan records (defaultIn ipv4 ws) p)
+packet-agrees : (ws : List ℕ) → Passes (kindIn ws) ws → (records : List Given) → Same (rulesOf records) (rulesIn (kindIn ws) ws) → (bytes : List ℕ) (p : Packet) → headerOf bytes ≡ Values p
+    → Agree (lookupPacket ws bytes) (scan records (defaultIn (kindIn ws) ws) p)
 packet-agrees ws h records same bytes p e = rw (readable-is ws bytes p e) (agree ws h records same p)
 
 -- THE STORE'S OWN TABLE: a record holds as many ends as a rule of it
-six-is : (xs : List ℕ) → length xs ≡ fieldCount ipv4 → six xs ≡ xs
-six-is xs l = sym (upTo-is 0 xs (fieldCount ipv4) (λ i. getD xs i 0) l (λ i h. refl))
+six-is : (xs : List ℕ) → length xs ≡ fieldCount large → six xs ≡ xs
+six-is xs l = sym (upTo-is 0 xs (fieldCount large) (λ i. getD xs i 0) l (λ i h. refl))
 
-given-back : (rows : List ℕ) (j : ℕ) → given (recordOf (ruleIn (fieldCount ipv4) rows j)) ≡ ruleIn (fieldCount ipv4) rows j
+given-back : (rows : List ℕ) (j : ℕ) → given (recordOf (ruleIn (fieldCount large) rows j)) ≡ ruleIn (fieldCount large) rows j
 given-back rows j =
-    let n = fieldCount ipv4 in
+    let n = fieldCount large in
     let a = six-is (ruleIn n rows j .lows) (length-upTo n (λ f. lowIn rows f j)) in
     let b = six-is (ruleIn n rows j .highs) (length-upTo n (λ f. highIn rows f j)) in
     λ i. record { number = ruleIn n rows j .number; action = ruleIn n rows j .action; lows = a i; highs = b i }
@@ -140,12 +141,12 @@ back : (rs : List Rule) → ((r : Rule) → In r rs → given (recordOf r) ≡ r
 back [] h = refl
 back (r ∷ rs) h = ap₂ _∷_ (h r (inl refl)) (back rs (λ x m. h x (inr m)))
 
-own : (ws : List ℕ) → Same (rulesOf (recordsOf ipv4 ws)) (rulesIn ipv4 ws)
+own : (ws : List ℕ) → Same (rulesOf (recordsOf (kindIn ws) ws)) (rulesIn (kindIn ws) ws)
 unfolding tableIn
-own ws = subst (λ (rs : List Rule). Same rs (rulesIn ipv4 ws)) (sym (back (rulesIn ipv4 ws) each)) (λ x m. m, λ x m. m)
+own ws = subst (λ (rs : List Rule). Same rs (rulesIn (kindIn ws) ws)) (sym (back (rulesIn (kindIn ws) ws) each)) (λ x m. m, λ x m. m)
   where
-    each : (r : Rule) → In r (rulesIn ipv4 ws) → given (recordOf r) ≡ r
-    each r m = let t = in-upTo _ _ r m in subst (λ (x : Rule). given (recordOf x) ≡ x) (sym (t .2)) (given-back (rowsOf ipv4 ws) _)
+    each : (r : Rule) → In r (rulesIn (kindIn ws) ws) → given (recordOf r) ≡ r
+    each r m = let t = in-upTo _ _ r m in subst (λ (x : Rule). given (recordOf x) ≡ x) (sym (t .2)) (given-back (rowsOf (kindIn ws) ws) _)
 
 pub scanned : Scan
 scanned = record {

@@ -5,7 +5,7 @@ use mathlib.Core.List.{List}
 use Prim.Native.Nat.{ℕ, _≤_}
 use native.Mathlib.Omega.{arith}
 use Rattle.model.specs.Table.{readsOf}
-use Rattle.model.specs.Ipv4.{ipv4, ipv4-shaped}
+use Rattle.model.specs.Ipv4.{kindIn}
 use Rattle.model.proofs.Tests.{by-test, never}
 use Rattle.model.proofs.Decide.{reads-tight}
 use Rattle.header.specs.Facts.{within-tops}
@@ -20,30 +20,31 @@ use Rattle.lookup.specs.Walk.{lookupValues, lookupPacket}
 use Rattle.demands.specs.Calls.{Passes, valuesIn, Bytes}
 use Rattle.demands.specs.Demand1.{Refuses, refuses, goes-on, done}
 use Rattle.demands.specs.Worst.{Told, Worst}
+use Rattle.demands.proofs.KindNamed.{shaped-in}
 use Rattle.demands.proofs.Packets.{tops-right, refused-by, readable-is, by-header}
 use Rattle.demands.proofs.Decided.{foundOf, lookup-is}
 
-module _ (ws : List ℕ) (h : Passes ipv4 ws) where
-  rules : Told-by-rules ipv4 ws
-  rules = worsts .told ipv4 ipv4-shaped ws h
+module _ (ws : List ℕ) (h : Passes (kindIn ws) ws) where
+  rules : Told-by-rules (kindIn ws) ws
+  rules = worsts .told (kindIn ws) (shaped-in ws) ws h
 
-  looked : (vs : List ℕ) → InTops ipv4 vs → lookupValues ipv4 ws vs ≡ foundOf ipv4 (tableOf ipv4 ws) vs
-  looked vs i = lookup-is ipv4 ipv4-shaped ws h vs (in-tops-right ipv4 vs i)
+  looked : (vs : List ℕ) → InTops (kindIn ws) vs → lookupValues (kindIn ws) ws vs ≡ foundOf (kindIn ws) (tableOf (kindIn ws) ws) vs
+  looked vs i = lookup-is (kindIn ws) (shaped-in ws) ws h vs (in-tops-right (kindIn ws) vs i)
 
-  reads-are : (vs : List ℕ) → InTops ipv4 vs → lookupValues ipv4 ws vs .reads ≡ readsOf ipv4 (tableOf ipv4 ws) vs
+  reads-are : (vs : List ℕ) → InTops (kindIn ws) vs → lookupValues (kindIn ws) ws vs .reads ≡ readsOf (kindIn ws) (tableOf (kindIn ws) ws) vs
   reads-are vs i = ap (λ (f : Found). f .reads) (looked vs i)
 
-  no-more : (vs : List ℕ) → InTops ipv4 vs → lookupValues ipv4 ws vs .reads ≤ worstSays ipv4 ws .reads
+  no-more : (vs : List ℕ) → InTops (kindIn ws) vs → lookupValues (kindIn ws) ws vs .reads ≤ worstSays (kindIn ws) ws .reads
   no-more vs i = rw (reads-are vs i) (rules .no-more vs i)
 
-  no-packet : (bytes : List ℕ) → Bytes bytes → lookupPacket ws bytes .reads ≤ worstSays ipv4 ws .reads
+  no-packet : (bytes : List ℕ) → Bytes bytes → lookupPacket ws bytes .reads ≤ worstSays (kindIn ws) ws .reads
   no-packet bytes b = by-header _ bytes
       (λ a u n. rw (refused-by ws bytes a u n) (omega arith))
-      (λ p e. rw (readable-is ws bytes p e) (no-more (valuesIn p) (right-tops ipv4 (valuesIn p) (tops-right p (within-tops bytes p b e)))))
+      (λ p e. rw (readable-is ws bytes p e) (no-more (valuesIn p) (right-tops (kindIn ws) (valuesIn p) (tops-right p (within-tops bytes p b e)))))
 
   told : Told ws
   told =
-      let v = worstSays ipv4 ws .value in
+      let v = worstSays (kindIn ws) ws .value in
       let i = rules .within in
       record {
         within = i;
@@ -51,18 +52,18 @@ module _ (ws : List ℕ) (h : Passes ipv4 ws) where
         no-more = no-more;
         fewer = λ vs j l. rw (reads-are vs j) (rules .fewer vs j l);
         no-packet = no-packet;
-        tight = omega (arith, rules .takes, reads-tight ipv4 (tableOf ipv4 ws) v (in-tops-right ipv4 v i));
+        tight = omega (arith, rules .takes, reads-tight (kindIn ws) (tableOf (kindIn ws) ws) v (in-tops-right (kindIn ws) v i));
       }
 
-answer : (ws : List ℕ) → Refuses 9 (Passes ipv4 ws → ⊥) done (worstSays ipv4 ws .answer)
-answer ws = by-test (passes ipv4 ws)
-    (λ z. goes-on (λ n. n z) (worsts .told ipv4 ipv4-shaped ws z .answer))
-    (λ z. let n : Passes ipv4 ws → ⊥ = λ y. never (sym y ∙ z) in refuses n (worsts .refused ipv4 ws n .answer))
+answer : (ws : List ℕ) → Refuses 9 (Passes (kindIn ws) ws → ⊥) done (worstSays (kindIn ws) ws .answer)
+answer ws = by-test (passes (kindIn ws) ws)
+    (λ z. goes-on (λ n. n z) (worsts .told (kindIn ws) (shaped-in ws) ws z .answer))
+    (λ z. let n : Passes (kindIn ws) ws → ⊥ = λ y. never (sym y ∙ z) in refuses n (worsts .refused (kindIn ws) ws n .answer))
 
 pub worst : Worst
 worst =
     record {
       answer = answer;
-      refused = λ ws u. let q = worsts .refused ipv4 ws (λ z. u (worsts .told ipv4 ipv4-shaped ws z .answer)) in (q .reads, q .value);
+      refused = λ ws u. let q = worsts .refused (kindIn ws) ws (λ z. u (worsts .told (kindIn ws) (shaped-in ws) ws z .answer)) in (q .reads, q .value);
       told = told;
     }

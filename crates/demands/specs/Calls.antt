@@ -1,5 +1,5 @@
 -- What the three demands speak of. A store's words are any list of numbers, and so are a packet's bytes. What start, insert, delete, check, read by number and by place, and cells answer and leave is defined in layout/specs/Store.antt, what a lookup answers in lookup/specs/Walk.antt, and what the lookup that counts answers and leaves in tally/specs/Tally.antt: the proof of each of these functions shows that its answer, and every word that it was lent, are what is said there.
--- What is said of stores is said of a kind of store. The library's is `ipv4` of model/specs/Ipv4.antt, with six fields: document 01 says five, and by P4 "Demands 2 and 3 now read six fields".
+-- What is said of stores is said of a kind of store. The library has two, of 64 and of 512 rules, and word 2 names which a store's words are: `kindIn` of model/specs/Ipv4.antt. Both have six fields: document 01 says five, and by P4 "Demands 2 and 3 now read six fields".
 -- Assumes nothing: these are definitions.
 use mathlib.Core.Path.{_≡_}
 use mathlib.Core.Logic.{_⊎_}
@@ -8,7 +8,7 @@ use mathlib.Core.List.{List}
 use Prim.Native.Nat.{ℕ, _+_, _≤_, _<_}
 use lib.ListN.{length, getD}
 use Rattle.model.specs.Table.{Kind, Rule, everyRule}
-use Rattle.model.specs.Ipv4.{ipv4}
+use Rattle.model.specs.Ipv4.{kindIn}
 use Rattle.header.specs.declared.Packet.{Packet}
 use Rattle.header.specs.declared.Header.the-variants.{Values}
 use Rattle.header.specs.Header.{valuesOf}
@@ -83,4 +83,4 @@ Bytes bytes = (i : ℕ) → getD bytes i 0 < 256
 
 -- THE LOOKUP BY VALUES, of a packet's record. (The lookup by an IPv4 packet is `lookupPacket` of lookup/specs/Walk.antt.)
 abbrev pub lookup : List ℕ → Packet → Found
-lookup ws p = lookupValues ipv4 ws (valuesIn p)
+lookup ws p = lookupValues (kindIn ws) ws (valuesIn p)

@@ -7,7 +7,7 @@ use mathlib.Core.List.{List, [], _∷_}
 use Prim.Native.Nat.{ℕ, _≤_, _<_}
 use Rattle.model.specs.Lists.{In}
 use Rattle.model.specs.Table.{Kind, Rule}
-use Rattle.model.specs.Ipv4.{ipv4}
+use Rattle.model.specs.Ipv4.{kindIn}
 use Rattle.header.specs.declared.Packet.{Packet}
 use Rattle.header.specs.Facts.{WithinTops}
 use Rattle.layout.specs.Store.{deleteSays, deleteWords}
@@ -33,13 +33,13 @@ noRecord = 0 ∷ 0 ∷ 0 ∷ 0 ∷ 0 ∷ 0 ∷ []
 
 -- what is said of the rule r of a store. A record of values within the tops (`InTops`) has six values, none above its top; `Never` says that none of them makes r the winner, and `Least` that this one does and none that is lesser, compared field by field from field 1
 pub record Said (ws : List ℕ) (r : Rule) : Type 0 where
-  pub answer : deadSays ipv4 ws (r .number) .answer ≡ 0
-  pub one-of : (deadSays ipv4 ws (r .number) .dead ≡ 0) ⊎ (deadSays ipv4 ws (r .number) .dead ≡ 1)
-  pub dead : (deadSays ipv4 ws (r .number) .dead ≡ 1) ↔ Never ipv4 (Wins ipv4 ws r)
-  pub dead-record : deadSays ipv4 ws (r .number) .dead ≡ 1 → deadSays ipv4 ws (r .number) .value ≡ noRecord
-  pub live : deadSays ipv4 ws (r .number) .dead ≡ 0 → Least ipv4 (Wins ipv4 ws r) (deadSays ipv4 ws (r .number) .value)
+  pub answer : deadSays (kindIn ws) ws (r .number) .answer ≡ 0
+  pub one-of : (deadSays (kindIn ws) ws (r .number) .dead ≡ 0) ⊎ (deadSays (kindIn ws) ws (r .number) .dead ≡ 1)
+  pub dead : (deadSays (kindIn ws) ws (r .number) .dead ≡ 1) ↔ Never (kindIn ws) (Wins (kindIn ws) ws r)
+  pub dead-record : deadSays (kindIn ws) ws (r .number) .dead ≡ 1 → deadSays (kindIn ws) ws (r .number) .value ≡ noRecord
+  pub live : deadSays (kindIn ws) ws (r .number) .dead ≡ 0 → Least (kindIn ws) (Wins (kindIn ws) ws r) (deadSays (kindIn ws) ws (r .number) .value)
   -- so a lookup of the record names the rule
-  pub named : deadSays ipv4 ws (r .number) .dead ≡ 0 → NamesIt r (lookupValues ipv4 ws (deadSays ipv4 ws (r .number) .value))
+  pub named : deadSays (kindIn ws) ws (r .number) .dead ≡ 0 → NamesIt r (lookupValues (kindIn ws) ws (deadSays (kindIn ws) ws (r .number) .value))
 
 -- two answers are the same but for their reads
 abbrev pub SameRule : Found → Found → Type 0
@@ -47,11 +47,11 @@ SameRule f g = (f .answer ≡ g .answer) × (f .rule ≡ g .rule) × (f .action 
 
 pub record Dead : Type 0 where
   -- "Refusals: 9, 1, 4 as in reading, with the default under 65,535"
-  pub answer : (ws : List ℕ) (n : ℕ) → n ≢ 65535 → Refuses 9 (Passes ipv4 ws → ⊥) (Refuses 1 (65534 < n) (Refuses 4 (There ipv4 n ws → ⊥) done)) (deadSays ipv4 ws n .answer)
-  pub answer-default : (ws : List ℕ) → Refuses 9 (Passes ipv4 ws → ⊥) done (deadSays ipv4 ws 65535 .answer)
-  pub refused : (ws : List ℕ) (n : ℕ) → deadSays ipv4 ws n .answer ≢ 0 → (deadSays ipv4 ws n .dead ≡ 0) × (deadSays ipv4 ws n .value ≡ noRecord)
+  pub answer : (ws : List ℕ) (n : ℕ) → n ≢ 65535 → Refuses 9 (Passes (kindIn ws) ws → ⊥) (Refuses 1 (65534 < n) (Refuses 4 (There (kindIn ws) n ws → ⊥) done)) (deadSays (kindIn ws) ws n .answer)
+  pub answer-default : (ws : List ℕ) → Refuses 9 (Passes (kindIn ws) ws → ⊥) done (deadSays (kindIn ws) ws 65535 .answer)
+  pub refused : (ws : List ℕ) (n : ℕ) → deadSays (kindIn ws) ws n .answer ≢ 0 → (deadSays (kindIn ws) ws n .dead ≡ 0) × (deadSays (kindIn ws) ws n .value ≡ noRecord)
   -- each rule of a store that passes, the default included
-  pub said : (ws : List ℕ) → Passes ipv4 ws → (r : Rule) → In r (everyIn ipv4 ws) → Said ws r
+  pub said : (ws : List ℕ) → Passes (kindIn ws) ws → (r : Rule) → In r (everyIn (kindIn ws) ws) → Said ws r
   -- "nobody dares to delete": a rule that is said to be dead can be deleted, and every lookup still names the same rule and action
-  pub deleted : (ws : List ℕ) (n : ℕ) → deadSays ipv4 ws n .dead ≡ 1 → deleteSays ipv4 ws n ≡ 0 → (p : Packet) → WithinTops p → SameRule (lookup (deleteWords ipv4 ws n) p) (lookup ws p)
-  pub deleted-packet : (ws : List ℕ) (n : ℕ) → deadSays ipv4 ws n .dead ≡ 1 → deleteSays ipv4 ws n ≡ 0 → (bytes : List ℕ) → Bytes bytes → SameRule (lookupPacket (deleteWords ipv4 ws n) bytes) (lookupPacket ws bytes)
+  pub deleted : (ws : List ℕ) (n : ℕ) → deadSays (kindIn ws) ws n .dead ≡ 1 → deleteSays (kindIn ws) ws n ≡ 0 → (p : Packet) → WithinTops p → SameRule (lookup (deleteWords (kindIn ws) ws n) p) (lookup ws p)
+  pub deleted-packet : (ws : List ℕ) (n : ℕ) → deadSays (kindIn ws) ws n .dead ≡ 1 → deleteSays (kindIn ws) ws n ≡ 0 → (bytes : List ℕ) → Bytes bytes → SameRule (lookupPacket (deleteWords (kindIn ws) ws n) bytes) (lookupPacket ws bytes)

@@ -9,7 +9,7 @@ use Prim.Native.Nat.{ℕ, _*_, _≤_, _<_}
 use lib.ListN.{length, drop}
 use Rattle.model.specs.Lists.{In}
 use Rattle.model.specs.Table.{Kind, Rule, withRule, cellsOf}
-use Rattle.model.specs.Ipv4.{ipv4}
+use Rattle.model.specs.Ipv4.{large, kindIn}
 use Rattle.header.specs.declared.Packet.{Packet}
 use Rattle.header.specs.declared.Header.the-variants.{Values}
 use Rattle.header.specs.Header.{totalLength, headerOf}
@@ -61,47 +61,47 @@ pub record OnlyAnswer (f : Found) : Type 0 where
   pub reads : f .reads ≡ 0
 
 pub record Demand1 : Type 0 where
-  -- START a store of c cells over the words ws, with a default of the action a
-  pub start : (ws : List ℕ) (c : ℕ) → Refuses 8 (NoRoom ipv4 c ws) done (startAnswer ipv4 ws c)
-  pub start-spares : (ws : List ℕ) (c a : ℕ) → Spares ipv4 c (startAnswer ipv4 ws c) ws (startWords ipv4 ws c a)
-  -- INSERT the rule r: "Order for insert: 9, 1, 2, 3, 5, 6." A caller's rule, a struct with two arrays, always has six low and six high ends.
-  pub all-ends : (g : Given) → (length (given g .lows) ≡ fieldCount ipv4) × (length (given g .highs) ≡ fieldCount ipv4)
-  pub insert : (ws : List ℕ) (r : Rule) → length (r .lows) ≡ fieldCount ipv4 → length (r .highs) ≡ fieldCount ipv4
-      → Refuses 9 (Passes ipv4 ws → ⊥)
+  -- START a large store of c cells over the words ws, with a default of the action a
+  pub start : (ws : List ℕ) (c : ℕ) → Refuses 8 (NoRoom large c ws) done (startAnswer large ws c)
+  pub start-spares : (ws : List ℕ) (c a : ℕ) → Spares large c (startAnswer large ws c) ws (startWords large ws c a)
+  -- INSERT the rule r: "Order for insert: 9, 1, 2, 3, 5, 6", and by P9 "5 at the store's own limit". A caller's rule, a struct with two arrays, always has six low and six high ends.
+  pub all-ends : (g : Given) → (length (given g .lows) ≡ fieldCount large) × (length (given g .highs) ≡ fieldCount large)
+  pub insert : (ws : List ℕ) (r : Rule) → length (r .lows) ≡ fieldCount (kindIn ws) → length (r .highs) ≡ fieldCount (kindIn ws)
+      → Refuses 9 (Passes (kindIn ws) ws → ⊥)
       (Refuses 1 (65534 < r .number)
-      (Refuses 2 (WrongRange ipv4 r ⊎ WrongPorts ipv4 r)
-      (Refuses 3 (There ipv4 (r .number) ws)
-      (Refuses 5 (ipv4 .most ≤ length (rulesIn ipv4 ws))
-      (Refuses 6 (cellsIn ws < cellsOf ipv4 (withRule r (tableOf ipv4 ws)))
+      (Refuses 2 (WrongRange (kindIn ws) r ⊎ WrongPorts (kindIn ws) r)
+      (Refuses 3 (There (kindIn ws) (r .number) ws)
+      (Refuses 5 (kindIn ws .most ≤ length (rulesIn (kindIn ws) ws))
+      (Refuses 6 (cellsIn ws < cellsOf (kindIn ws) (withRule r (tableOf (kindIn ws) ws)))
       done)))))
-      (insertSays ipv4 ws r)
-  pub insert-spares : (ws : List ℕ) (r : Rule) → Spares ipv4 (cellsIn ws) (insertSays ipv4 ws r) ws (insertWords ipv4 ws r)
+      (insertSays (kindIn ws) ws r)
+  pub insert-spares : (ws : List ℕ) (r : Rule) → Spares (kindIn ws) (cellsIn ws) (insertSays (kindIn ws) ws r) ws (insertWords (kindIn ws) ws r)
   -- DELETE the rule of number n: "For delete and read: 9, 1, 4"
-  pub delete : (ws : List ℕ) (n : ℕ) → Refuses 9 (Passes ipv4 ws → ⊥) (Refuses 1 (65534 < n) (Refuses 4 (There ipv4 n ws → ⊥) done)) (deleteSays ipv4 ws n)
-  pub delete-spares : (ws : List ℕ) (n : ℕ) → Spares ipv4 (cellsIn ws) (deleteSays ipv4 ws n) ws (deleteWords ipv4 ws n)
+  pub delete : (ws : List ℕ) (n : ℕ) → Refuses 9 (Passes (kindIn ws) ws → ⊥) (Refuses 1 (65534 < n) (Refuses 4 (There (kindIn ws) n ws → ⊥) done)) (deleteSays (kindIn ws) ws n)
+  pub delete-spares : (ws : List ℕ) (n : ℕ) → Spares (kindIn ws) (cellsIn ws) (deleteSays (kindIn ws) ws n) ws (deleteWords (kindIn ws) ws n)
   -- READ the rule of number n: "read gives the default under 65,535 instead of 1". It changes no word, as do the calls below: they are lent the words to read only.
-  pub read : (ws : List ℕ) (n : ℕ) → n ≢ 65535 → Refuses 9 (Passes ipv4 ws → ⊥) (Refuses 1 (65534 < n) (Refuses 4 (There ipv4 n ws → ⊥) done)) (readSays ipv4 ws n)
-  pub read-default : (ws : List ℕ) → Refuses 9 (Passes ipv4 ws → ⊥) done (readSays ipv4 ws 65535)
-  pub read-zeros : (ws : List ℕ) (n : ℕ) → readSays ipv4 ws n ≢ 0 → readGives ipv4 ws n ≡ zeroRule ipv4
+  pub read : (ws : List ℕ) (n : ℕ) → n ≢ 65535 → Refuses 9 (Passes (kindIn ws) ws → ⊥) (Refuses 1 (65534 < n) (Refuses 4 (There (kindIn ws) n ws → ⊥) done)) (readSays (kindIn ws) ws n)
+  pub read-default : (ws : List ℕ) → Refuses 9 (Passes (kindIn ws) ws → ⊥) done (readSays (kindIn ws) ws 65535)
+  pub read-zeros : (ws : List ℕ) (n : ℕ) → readSays (kindIn ws) ws n ≢ 0 → readGives (kindIn ws) ws n ≡ zeroRule (kindIn ws)
   -- THE RULE AT PLACE p, counted from 1: 9, then 4 where there are fewer rules
-  pub rule-at : (ws : List ℕ) (p : ℕ) → Refuses 9 (Passes ipv4 ws → ⊥) (Refuses 4 ((p ≡ 0) ⊎ (length (rulesIn ipv4 ws) < p)) done) (placeSays ipv4 ws p)
-  pub rule-at-zeros : (ws : List ℕ) (p : ℕ) → placeSays ipv4 ws p ≢ 0 → placeGives ipv4 ws p ≡ zeroRule ipv4
+  pub rule-at : (ws : List ℕ) (p : ℕ) → Refuses 9 (Passes (kindIn ws) ws → ⊥) (Refuses 4 ((p ≡ 0) ⊎ (length (rulesIn (kindIn ws) ws) < p)) done) (placeSays (kindIn ws) ws p)
+  pub rule-at-zeros : (ws : List ℕ) (p : ℕ) → placeSays (kindIn ws) ws p ≢ 0 → placeGives (kindIn ws) ws p ≡ zeroRule (kindIn ws)
   -- THE CELLS in use. (The check itself answers 0 where `Passes` holds, and else 9: `checkSays` of reamstork/specs/Face.antt.)
-  pub cells : (ws : List ℕ) → Refuses 9 (Passes ipv4 ws → ⊥) done (cellsSays ipv4 ws)
-  pub cells-zeros : (ws : List ℕ) → cellsSays ipv4 ws ≢ 0 → cellsGives ipv4 ws ≡ 0
+  pub cells : (ws : List ℕ) → Refuses 9 (Passes (kindIn ws) ws → ⊥) done (cellsSays (kindIn ws) ws)
+  pub cells-zeros : (ws : List ℕ) → cellsSays (kindIn ws) ws ≢ 0 → cellsGives (kindIn ws) ws ≡ 0
   -- LOOKUP BY VALUES: "7 or 11, then 9"; over words that pass it is never 9 (Demand 2)
-  pub lookup-answer : (ws : List ℕ) (p : Packet) → Refuses 11 (AboveTop ipv4 (valuesIn p)) (Refuses 9 (Undecided ipv4 ws (valuesIn p)) done) (lookup ws p .answer)
+  pub lookup-answer : (ws : List ℕ) (p : Packet) → Refuses 11 (AboveTop (kindIn ws) (valuesIn p)) (Refuses 9 (Undecided (kindIn ws) ws (valuesIn p)) done) (lookup ws p .answer)
   pub lookup-zeros : (ws : List ℕ) (p : Packet) → lookup ws p .answer ≢ 0 → OnlyAnswer (lookup ws p)
   -- LOOKUP BY A PACKET: 7 exactly when one of five of document 01's six conditions holds; then 14, "behind 7 and before 9", exactly when the sixth does, that the slice is shorter than the total length; otherwise the header gives values, and 9 is by these
   pub packet-answer : (ws bytes : List ℕ) → Bytes bytes
       → Refuses 7 (Faulty bytes)
       (Refuses 14 (length bytes < totalLength bytes)
-      (λ answer. (p : Packet) × (headerOf bytes ≡ Values p) × Refuses 9 (Undecided ipv4 ws (valuesIn p)) done answer))
+      (λ answer. (p : Packet) × (headerOf bytes ≡ Values p) × Refuses 9 (Undecided (kindIn ws) ws (valuesIn p)) done answer))
       (lookupPacket ws bytes .answer)
   pub packet-zeros : (ws bytes : List ℕ) → lookupPacket ws bytes .answer ≢ 0 → OnlyAnswer (lookupPacket ws bytes)
   -- "after c cells of one field", over any words: no lookup reads more than c cells for each field in all
-  pub lookup-reads : (ws : List ℕ) (p : Packet) → lookup ws p .reads ≤ fieldCount ipv4 * cellsIn ws
-  pub packet-reads : (ws bytes : List ℕ) → lookupPacket ws bytes .reads ≤ fieldCount ipv4 * cellsIn ws
+  pub lookup-reads : (ws : List ℕ) (p : Packet) → lookup ws p .reads ≤ fieldCount (kindIn ws) * cellsIn ws
+  pub packet-reads : (ws bytes : List ℕ) → lookupPacket ws bytes .reads ≤ fieldCount (kindIn ws) * cellsIn ws
   -- LOOKUP BY A PACKET WITH TALLIES: the refusals of the lookup by a packet, then "13 when a new number finds no place, after all others"
   pub tally-before : (ws bytes : List ℕ) (t : Tallies) → lookupPacket ws bytes .answer ≢ 0 → tallyAnswer ws bytes t ≡ lookupPacket ws bytes
   pub tally-13 : (ws bytes : List ℕ) (t : Tallies) → lookupPacket ws bytes .answer ≡ 0 → Refuses 13 (NoPlace (lookupPacket ws bytes .rule) t) done (tallyAnswer ws bytes t .answer)

@@ -7,7 +7,7 @@ use Prim.Native.Nat.{ℕ, _≤_, _<_}
 use lib.ListN.{length}
 use Rattle.model.specs.Lists.{In}
 use Rattle.model.specs.Table.{Kind, Rule, defaultRule}
-use Rattle.model.specs.Ipv4.{ipv4}
+use Rattle.model.specs.Ipv4.{large, kindIn}
 use Rattle.header.specs.declared.Packet.{Packet}
 use Rattle.header.specs.declared.Header.the-variants.{Values}
 use Rattle.header.specs.Header.{headerOf}
@@ -63,25 +63,29 @@ pub record AllEnds (k : Kind) (g : Given) : Type 0 where
 
 pub record Demand2 : Type 0 where
   -- the lookup by values, none above its top
-  pub by-values : (ws : List ℕ) → Passes ipv4 ws → (p : Packet) → WithinTops p → Names ipv4 ws (valuesIn p) (lookup ws p)
+  pub by-values : (ws : List ℕ) → Passes (kindIn ws) ws → (p : Packet) → WithinTops p → Names (kindIn ws) ws (valuesIn p) (lookup ws p)
   -- the lookup by a packet whose header gives the values p: `headerOf` of header/specs/Header.antt says where the RFCs put each. They are never above their tops.
-  pub by-packet : (ws : List ℕ) → Passes ipv4 ws → (bytes : List ℕ) → Bytes bytes → (p : Packet) → headerOf bytes ≡ Values p → WithinTops p × Names ipv4 ws (valuesIn p) (lookupPacket ws bytes)
+  pub by-packet : (ws : List ℕ) → Passes (kindIn ws) ws → (bytes : List ℕ) → Bytes bytes → (p : Packet) → headerOf bytes ≡ Values p → WithinTops p × Names (kindIn ws) ws (valuesIn p) (lookupPacket ws bytes)
   -- the lookup with tallies, whatever the record holds: "Demand 2 excepts a lookup refused with 13"
-  pub by-tally : (ws : List ℕ) → Passes ipv4 ws → (bytes : List ℕ) → Bytes bytes → (p : Packet) → headerOf bytes ≡ Values p → (t : Tallies) → (tallyAnswer ws bytes t .answer ≡ 13) ⊎ Names ipv4 ws (valuesIn p) (tallyAnswer ws bytes t)
+  pub by-tally : (ws : List ℕ) → Passes (kindIn ws) ws → (bytes : List ℕ) → Bytes bytes → (p : Packet) → headerOf bytes ≡ Values p → (t : Tallies) → (tallyAnswer ws bytes t .answer ≡ 13) ⊎ Names (kindIn ws) ws (valuesIn p) (tallyAnswer ws bytes t)
   -- "The default rule has number 65,535 and full ranges": it is always there
-  pub default : (ws : List ℕ) → In (defaultRule ipv4 (defaultIn ipv4 ws)) (everyIn ipv4 ws)
+  pub default : (ws : List ℕ) → In (defaultRule (kindIn ws) (defaultIn (kindIn ws) ws)) (everyIn (kindIn ws) ws)
   -- "An accepted insert adds that rule, [..] and every other rule stays"
-  pub insert : (ws : List ℕ) (r : Rule) → insertSays ipv4 ws r ≡ 0 → Edited ipv4 ws (insertWords ipv4 ws r) (λ s. (s ≡ r) ⊎ In s (rulesIn ipv4 ws))
+  pub insert : (ws : List ℕ) (r : Rule) → insertSays (kindIn ws) ws r ≡ 0 → Edited (kindIn ws) ws (insertWords (kindIn ws) ws r) (λ s. (s ≡ r) ⊎ In s (rulesIn (kindIn ws) ws))
   -- "an accepted delete takes it out, and every other rule stays"
-  pub delete : (ws : List ℕ) (n : ℕ) → deleteSays ipv4 ws n ≡ 0 → Edited ipv4 ws (deleteWords ipv4 ws n) (λ s. In s (rulesIn ipv4 ws) × (s .number ≢ n))
+  pub delete : (ws : List ℕ) (n : ℕ) → deleteSays (kindIn ws) ws n ≡ 0 → Edited (kindIn ws) ws (deleteWords (kindIn ws) ws n) (λ s. In s (rulesIn (kindIn ws) ws) × (s .number ≢ n))
+  -- either leaves a store of the kind that it was, as a refused one does, which leaves every word
+  pub insert-kind : (ws : List ℕ) (r : Rule) → kindIn (insertWords (kindIn ws) ws r) ≡ kindIn ws
+  pub delete-kind : (ws : List ℕ) (n : ℕ) → kindIn (deleteWords (kindIn ws) ws n) ≡ kindIn ws
   -- what all edits begin with
-  pub start : (ws : List ℕ) (c a : ℕ) → startAnswer ipv4 ws c ≡ 0 → Fresh ipv4 c a (startWords ipv4 ws c a)
+  pub start : (ws : List ℕ) (c a : ℕ) → startAnswer large ws c ≡ 0 → Fresh large c a (startWords large ws c a)
+  pub start-kind : (ws : List ℕ) (c a : ℕ) → startAnswer large ws c ≡ 0 → kindIn (startWords large ws c a) ≡ large
   -- By P4 "the default alone takes 6 cells", one for each field. "Deleting never needs more cells than before."
-  pub start-cells : (ws : List ℕ) (c a : ℕ) → startAnswer ipv4 ws c ≡ 0 → cellsGives ipv4 (startWords ipv4 ws c a) ≡ fieldCount ipv4
-  pub delete-cells : (ws : List ℕ) (n : ℕ) → deleteSays ipv4 ws n ≡ 0 → cellsGives ipv4 (deleteWords ipv4 ws n) ≤ cellsGives ipv4 ws
+  pub start-cells : (ws : List ℕ) (c a : ℕ) → startAnswer large ws c ≡ 0 → cellsGives large (startWords large ws c a) ≡ fieldCount large
+  pub delete-cells : (ws : List ℕ) (n : ℕ) → deleteSays (kindIn ws) ws n ≡ 0 → cellsGives (kindIn ws) (deleteWords (kindIn ws) ws n) ≤ cellsGives (kindIn ws) ws
   -- and a rule that is read is the store's rule of that number
-  pub read : (ws : List ℕ) (n : ℕ) → readSays ipv4 ws n ≡ 0 → In (readGives ipv4 ws n) (everyIn ipv4 ws) × (readGives ipv4 ws n .number ≡ n)
+  pub read : (ws : List ℕ) (n : ℕ) → readSays (kindIn ws) ws n ≡ 0 → In (readGives (kindIn ws) ws n) (everyIn (kindIn ws) ws) × (readGives (kindIn ws) ws n .number ≡ n)
   -- and place by place all rules are read
-  pub rule-at : (ws : List ℕ) → Listed ipv4 ws
+  pub rule-at : (ws : List ℕ) → Listed (kindIn ws) ws
   -- A caller gets it as a struct with two arrays of six ends, of which the promise says what rule it is: no second such struct is the same rule
-  pub read-one : (g h : Given) → AllEnds ipv4 g → AllEnds ipv4 h → given g ≡ given h → g ≡ h
+  pub read-one : (g h : Given) → AllEnds large g → AllEnds large h → given g ≡ given h → g ≡ h

@@ -6,7 +6,7 @@ use mathlib.Core.List.{List, [], _∷_, _++_}
 use Prim.Native.Nat.{ℕ}
 use Rattle.model.specs.Lists.{In}
 use Rattle.model.specs.Table.{Rule, Table}
-use Rattle.model.specs.Ipv4.{ipv4}
+use Rattle.model.specs.Ipv4.{kindIn}
 use Rattle.header.specs.declared.Packet.{Packet}
 use Rattle.header.specs.declared.Header.the-variants.{Values}
 use Rattle.header.specs.Header.{headerOf}
@@ -46,7 +46,7 @@ pub record Portless : Type 0 where
   -- "1 where it is a later fragment or another protocol"; both ports are 0 then
   pub without : (bytes : List ℕ) → Bytes bytes → (p : Packet) → headerOf bytes ≡ Values p → (Ported bytes → ⊥) → (p .portless ≡ 1) × (p .«destination_port» ≡ 0) × (p .«source_port» ≡ 0)
   -- in a store that passes, a rule whose port ranges aren't both full holds no packet without ports
-  pub asked : (ws : List ℕ) → Passes ipv4 ws → (r : Rule) → In r (rulesIn ipv4 ws) → (FullPorts ipv4 r → ⊥) → (bytes : List ℕ) (p : Packet) → headerOf bytes ≡ Values p → HoldsAll ipv4 (valuesIn p) r → Ported bytes
+  pub asked : (ws : List ℕ) → Passes (kindIn ws) ws → (r : Rule) → In r (rulesIn (kindIn ws) ws) → (FullPorts (kindIn ws) r → ⊥) → (bytes : List ℕ) (p : Packet) → headerOf bytes ≡ Values p → HoldsAll (kindIn ws) (valuesIn p) r → Ported bytes
   -- in every store that passes and holds the example's table, the rule for ports 0 to 1023 decides for the transfer's packet to port 69, and for neither the echo nor the later fragment; these get the rule that asks 0 to 1
-  pub decided : (ws : List ℕ) → Passes ipv4 ws → tableOf ipv4 ws ≡ example
+  pub decided : (ws : List ℕ) → Passes (kindIn ws) ws → tableOf (kindIn ws) ws ≡ example
       → (lookupPacket ws transfer .rule ≡ 10) × (lookupPacket ws echo .rule ≡ 20) × (lookupPacket ws laterFragment .rule ≡ 20)

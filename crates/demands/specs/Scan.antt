@@ -6,7 +6,7 @@ use mathlib.Core.List.{List, _∷_, _++_, map}
 use Prim.Native.Nat.{ℕ, _≤_, _<_}
 use Rattle.model.specs.Lists.{In, Same}
 use Rattle.model.specs.Table.{Kind, Rule}
-use Rattle.model.specs.Ipv4.{ipv4}
+use Rattle.model.specs.Ipv4.{large, kindIn}
 use Rattle.header.specs.declared.Packet.{Packet}
 use Rattle.header.specs.declared.Header.the-variants.{Values}
 use Rattle.header.specs.Header.{headerOf}
@@ -52,15 +52,15 @@ NamesRule k rules a vs w =
 
 pub record Scan : Type 0 where
   -- the theorem, for every list of records that are the store's rules, in whatever order and however often, and for every packet's record, within the tops or not
-  pub agrees : (ws : List ℕ) → Passes ipv4 ws → (records : List Given) → Same (rulesOf records) (rulesIn ipv4 ws) → (p : Packet) → Agree (lookup ws p) (scan records (defaultIn ipv4 ws) p)
+  pub agrees : (ws : List ℕ) → Passes (kindIn ws) ws → (records : List Given) → Same (rulesOf records) (rulesIn (kindIn ws) ws) → (p : Packet) → Agree (lookup ws p) (scan records (defaultIn (kindIn ws) ws) p)
   -- the same beside the lookup by a packet whose header gives the values p
-  pub by-packet : (ws : List ℕ) → Passes ipv4 ws → (records : List Given) → Same (rulesOf records) (rulesIn ipv4 ws) → (bytes : List ℕ) (p : Packet) → headerOf bytes ≡ Values p
-      → Agree (lookupPacket ws bytes) (scan records (defaultIn ipv4 ws) p)
+  pub by-packet : (ws : List ℕ) → Passes (kindIn ws) ws → (records : List Given) → Same (rulesOf records) (rulesIn (kindIn ws) ws) → (bytes : List ℕ) (p : Packet) → headerOf bytes ≡ Values p
+      → Agree (lookupPacket ws bytes) (scan records (defaultIn (kindIn ws) ws) p)
   -- the store's own table is such a list
-  pub own : (ws : List ℕ) → Same (rulesOf (recordsOf ipv4 ws)) (rulesIn ipv4 ws)
+  pub own : (ws : List ℕ) → Same (rulesOf (recordsOf (kindIn ws) ws)) (rulesIn (kindIn ws) ws)
   -- and for any list: what is named
-  pub names : (records : List Given) (a : ℕ) (p : Packet) → WithinTops p → (scan records a p .answer ≡ 0) × NamesRule ipv4 (rulesOf records) a (valuesIn p) (scan records a p)
+  pub names : (records : List Given) (a : ℕ) (p : Packet) → WithinTops p → (scan records a p .answer ≡ 0) × NamesRule large (rulesOf records) a (valuesIn p) (scan records a p)
   -- "Refusals: 11 as before", and nothing else refuses
-  pub above : (records : List Given) (a : ℕ) (p : Packet) → AboveTop ipv4 (valuesIn p) → scan records a p ≡ noWinner 11
+  pub above : (records : List Given) (a : ℕ) (p : Packet) → AboveTop large (valuesIn p) → scan records a p ≡ noWinner 11
   -- "A rule whose low end is above its high end holds nothing"
-  pub crossed : (r : Rule) (i : ℕ) → i < fieldCount ipv4 → highAt r i < lowAt r i → (vs : List ℕ) → HoldsAll ipv4 vs r → ⊥
+  pub crossed : (r : Rule) (i : ℕ) → i < fieldCount large → highAt r i < lowAt r i → (vs : List ℕ) → HoldsAll large vs r → ⊥

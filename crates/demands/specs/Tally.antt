@@ -9,7 +9,7 @@ use lib.Dec.{eqb}
 use lib.ListN.{length, getD, set}
 use Rattle.model.specs.Lists.{In}
 use Rattle.model.specs.Table.{Kind, Rule, numberOf}
-use Rattle.model.specs.Ipv4.{ipv4}
+use Rattle.model.specs.Ipv4.{large, kindIn}
 use Rattle.header.specs.Header.{totalLength}
 use Rattle.layout.specs.Store.{insertSays, insertWords, deleteSays, deleteWords}
 use Rattle.lookup.specs.Walk.{lookupPacket}
@@ -45,14 +45,14 @@ Nowhere P t = (j : ℕ) → j < length (t .key) → P j → ⊥
 abbrev pub NoPlace : ℕ → Tallies → Type 0
 NoPlace n t = Nowhere (HoldsAt n t) t × Nowhere (UnusedAt t) t
 
--- a record of m places: its three arrays. "There are 65 places", one for each rule of a full table, and one for the default
+-- a record of m places: its three arrays. "There are 65 places", and by P9 513, one for each rule of a full table, and one for the default
 pub record Places (m : ℕ) (t : Tallies) : Type 0 where
   pub keys : length (t .key) ≡ m
   pub packets : length (t .packets) ≡ m
   pub bytes : length (t .bytes) ≡ m
 
 abbrev pub Whole : Tallies → Type 0
-Whole = Places (suc (ipv4 .most))
+Whole = Places (suc (large .most))
 
 -- a packet of so many bytes was counted for the number n: t was lent, and u is left
 pub record AddedTo (n total : ℕ) (t u : Tallies) : Type 0 where
@@ -135,9 +135,9 @@ pub record Tallied : Type 0 where
   -- and the place of a number that was held is still its own
   pub place-kept : (t : Tallies) (n i : ℕ) → FirstAt (HoldsAt n t) t i → (es : List Event) → Undropped n t es → FirstAt (HoldsAt n (talliesAfter t es)) (talliesAfter t es) i
   -- "A record that began clear, and from which the tally of each deleted rule is dropped, has room for a full table and its default" (include/reamstork.h): a clear record is well kept, lookups and accepted inserts keep it so, and so does an accepted delete after which the number's tally is dropped
-  pub clear-kept : (ws : List ℕ) → WellKept ipv4 ws cleared
-  pub look-kept : (ws : List ℕ) → Passes ipv4 ws → (bytes : List ℕ) (t : Tallies) → WellKept ipv4 ws t → WellKept ipv4 ws (talliesLeft ws bytes t)
-  pub insert-kept : (ws : List ℕ) (r : Rule) → insertSays ipv4 ws r ≡ 0 → (t : Tallies) → WellKept ipv4 ws t → WellKept ipv4 (insertWords ipv4 ws r) t
-  pub delete-kept : (ws : List ℕ) (n : ℕ) → deleteSays ipv4 ws n ≡ 0 → (t u : Tallies) → Dropped n t u → WellKept ipv4 ws t → WellKept ipv4 (deleteWords ipv4 ws n) u
+  pub clear-kept : (ws : List ℕ) → WellKept (kindIn ws) ws cleared
+  pub look-kept : (ws : List ℕ) → Passes (kindIn ws) ws → (bytes : List ℕ) (t : Tallies) → WellKept (kindIn ws) ws t → WellKept (kindIn ws) ws (talliesLeft ws bytes t)
+  pub insert-kept : (ws : List ℕ) (r : Rule) → insertSays (kindIn ws) ws r ≡ 0 → (t : Tallies) → WellKept (kindIn ws) ws t → WellKept (kindIn (insertWords (kindIn ws) ws r)) (insertWords (kindIn ws) ws r) t
+  pub delete-kept : (ws : List ℕ) (n : ℕ) → deleteSays (kindIn ws) ws n ≡ 0 → (t u : Tallies) → Dropped n t u → WellKept (kindIn ws) ws t → WellKept (kindIn (deleteWords (kindIn ws) ws n)) (deleteWords (kindIn ws) ws n) u
   -- and beside a store that passes, a well-kept record is never refused with 13
-  pub room : (ws : List ℕ) → Passes ipv4 ws → (t : Tallies) → Whole t → WellKept ipv4 ws t → (bytes : List ℕ) → tallyAnswer ws bytes t ≡ lookupPacket ws bytes
+  pub room : (ws : List ℕ) → Passes (kindIn ws) ws → (t : Tallies) → Whole t → WellKept (kindIn ws) ws t → (bytes : List ℕ) → tallyAnswer ws bytes t ≡ lookupPacket ws bytes

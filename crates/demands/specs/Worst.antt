@@ -6,7 +6,7 @@ use mathlib.Core.Logic.{_≢_}
 use mathlib.Core.List.{List}
 use Prim.Native.Nat.{ℕ, _+_, _*_, _≤_, _<_}
 use lib.ListN.{length}
-use Rattle.model.specs.Ipv4.{ipv4}
+use Rattle.model.specs.Ipv4.{kindIn}
 use Rattle.search.specs.Search.{Less}
 use Rattle.search.specs.Facts.{InTops}
 use Rattle.worst.specs.Worst.{worstSays}
@@ -18,18 +18,18 @@ use Rattle.demands.specs.Dead.{noRecord}
 -- what is said of a store that passes. A record of values within the tops (`InTops`) has six values, none above its top
 pub record Told (ws : List ℕ) : Type 0 where
   -- the record is within the tops, and a lookup of it takes the reads
-  pub within : InTops ipv4 (worstSays ipv4 ws .value)
-  pub taken : (lookupValues ipv4 ws (worstSays ipv4 ws .value) .answer ≡ 0) × (lookupValues ipv4 ws (worstSays ipv4 ws .value) .reads ≡ worstSays ipv4 ws .reads)
+  pub within : InTops (kindIn ws) (worstSays (kindIn ws) ws .value)
+  pub taken : (lookupValues (kindIn ws) ws (worstSays (kindIn ws) ws .value) .answer ≡ 0) × (lookupValues (kindIn ws) ws (worstSays (kindIn ws) ws .value) .reads ≡ worstSays (kindIn ws) ws .reads)
   -- none takes more, and every lesser record, compared field by field from field 1, takes fewer
-  pub no-more : (vs : List ℕ) → InTops ipv4 vs → lookupValues ipv4 ws vs .reads ≤ worstSays ipv4 ws .reads
-  pub fewer : (vs : List ℕ) → InTops ipv4 vs → Less vs (worstSays ipv4 ws .value) → lookupValues ipv4 ws vs .reads < worstSays ipv4 ws .reads
+  pub no-more : (vs : List ℕ) → InTops (kindIn ws) vs → lookupValues (kindIn ws) ws vs .reads ≤ worstSays (kindIn ws) ws .reads
+  pub fewer : (vs : List ℕ) → InTops (kindIn ws) vs → Less vs (worstSays (kindIn ws) ws .value) → lookupValues (kindIn ws) ws vs .reads < worstSays (kindIn ws) ws .reads
   -- so no packet takes more, whatever its bytes
-  pub no-packet : (bytes : List ℕ) → Bytes bytes → lookupPacket ws bytes .reads ≤ worstSays ipv4 ws .reads
+  pub no-packet : (bytes : List ℕ) → Bytes bytes → lookupPacket ws bytes .reads ≤ worstSays (kindIn ws) ws .reads
   -- it is within demand 3's bound for any table of as many rules
-  pub tight : worstSays ipv4 ws .reads ≤ 7 * length (rulesIn ipv4 ws) + 6
+  pub tight : worstSays (kindIn ws) ws .reads ≤ 7 * length (rulesIn (kindIn ws) ws) + 6
 
 pub record Worst : Type 0 where
   -- 9 exactly when the check fails, and then zeros
-  pub answer : (ws : List ℕ) → Refuses 9 (Passes ipv4 ws → ⊥) done (worstSays ipv4 ws .answer)
-  pub refused : (ws : List ℕ) → worstSays ipv4 ws .answer ≢ 0 → (worstSays ipv4 ws .reads ≡ 0) × (worstSays ipv4 ws .value ≡ noRecord)
-  pub told : (ws : List ℕ) → Passes ipv4 ws → Told ws
+  pub answer : (ws : List ℕ) → Refuses 9 (Passes (kindIn ws) ws → ⊥) done (worstSays (kindIn ws) ws .answer)
+  pub refused : (ws : List ℕ) → worstSays (kindIn ws) ws .answer ≢ 0 → (worstSays (kindIn ws) ws .reads ≡ 0) × (worstSays (kindIn ws) ws .value ≡ noRecord)
+  pub told : (ws : List ℕ) → Passes (kindIn ws) ws → Told ws

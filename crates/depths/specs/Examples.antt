@@ -4,7 +4,7 @@ use mathlib.Core.Path.{_≡_, refl}
 use mathlib.Core.List.{[], _∷_}
 use Prim.Native.Nat.{ℕ}
 use Rattle.model.specs.Table.{Rule, Table}
-use Rattle.model.specs.Ipv4.{ipv4}
+use Rattle.model.specs.Ipv4.{large}
 use Rattle.model.specs.Bench.{both}
 use Rattle.cells.specs.Text.{width}
 use Rattle.search.specs.Search.{most, first}
@@ -12,11 +12,11 @@ use Rattle.blocks.specs.Blocks.{pow8, leastFrom, depth}
 use Rattle.deepest.specs.Deepest.{weigh, mostBlocks, firstDeepest}
 
 -- the bench table: no field has more than 8 ends, so every record reads a block for each field, and the first of all records is the least
-pub bench-blocks : mostBlocks ipv4 both ≡ 6
+pub bench-blocks : mostBlocks large both ≡ 6
 unfolding weigh width most pow8 leastFrom depth
 bench-blocks = refl
 
-pub bench-record : firstDeepest ipv4 both ≡ 0 ∷ 0 ∷ 0 ∷ 0 ∷ 0 ∷ 0 ∷ []
+pub bench-record : firstDeepest large both ≡ 0 ∷ 0 ∷ 0 ∷ 0 ∷ 0 ∷ 0 ∷ []
 unfolding weigh width most first pow8 leastFrom depth
 bench-record = refl
 
@@ -28,10 +28,10 @@ abbrev ports : Table
 ports = record { action = 0; rules = port 1 100 ∷ port 2 200 ∷ port 3 300 ∷ port 4 400 ∷ [] }
 
 -- so one block more is read for that destination and protocol, whatever the ports are
-pub ports-blocks : mostBlocks ipv4 ports ≡ 7
+pub ports-blocks : mostBlocks large ports ≡ 7
 unfolding weigh width most pow8 leastFrom depth
 ports-blocks = refl
 
-pub ports-record : firstDeepest ipv4 ports ≡ 10 ∷ 0 ∷ 6 ∷ 0 ∷ 0 ∷ 0 ∷ []
+pub ports-record : firstDeepest large ports ≡ 10 ∷ 0 ∷ 6 ∷ 0 ∷ 0 ∷ 0 ∷ []
 unfolding weigh width most first pow8 leastFrom depth
 ports-record = refl

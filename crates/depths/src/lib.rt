@@ -3,7 +3,7 @@ ghost use mathlib.Core.Path.{_≡_};
 ghost use Prim.Native.Nat.{suc, _≤_};
 ghost use lib.ListN.{length};
 ghost use Rattle.model.specs.Table.{Shaped};
-ghost use Rattle.model.specs.Ipv4.{ipv4};
+ghost use Rattle.model.specs.Ipv4.{kindIn};
 ghost use Rattle.rows.specs.Rows.{treeAt, Scratch};
 ghost use Rattle.table.specs.Rows.{kindOf, places as placesOf};
 ghost use Rattle.deepest.specs.Deepest.{weighed};
@@ -76,21 +76,41 @@ pub fn worst_in(
     Count { answer: 0, reads }
 }
 
-// The most blocks that any record of values reads over an image, and the least record that reads so many.
-pub fn worst(image: &[u32]) -> Most
-    ensures { λ r. ⌜ r ≡ imageWorst ipv4 (now (image .entry)) ⌝ }
+// The same for the kind that word 2 names.
+fn blocks(image: &[u32], out: &mut [u32]) -> Count
+    requires { ⌜ length (now out) ≡ 6 ⌝ }
+    ensures { λ r. ⌜ made (r .answer) (r .reads) (now (out .exit)) ≡ imageMost (kindIn (now (image .entry))) (now (image .entry)) (now (out .entry)) ⌝ }
 {
-    let mut sets = [0u16; ipv4::SCRATCH];
-    let mut ends = [0u32; ipv4::SCRATCH];
-    let mut value = [0u32; 6];
-    let count = worst_in(
+    if ipv4::is_large(image) {
+        let mut sets = [0u16; ipv4::LARGE];
+        let mut ends = [0u32; ipv4::LARGE];
+        return worst_in(
+            image,
+            &ipv4::TOPS,
+            ipv4::shape(true),
+            &mut sets,
+            &mut ends,
+            out,
+        );
+    }
+    let mut sets = [0u16; ipv4::SMALL];
+    let mut ends = [0u32; ipv4::SMALL];
+    worst_in(
         image,
         &ipv4::TOPS,
-        ipv4::shape(),
+        ipv4::shape(false),
         &mut sets,
         &mut ends,
-        &mut value,
-    );
+        out,
+    )
+}
+
+// The most blocks that any record of values reads over an image, and the least record that reads so many.
+pub fn worst(image: &[u32]) -> Most
+    ensures { λ r. ⌜ r ≡ imageWorst (kindIn (now (image .entry))) (now (image .entry)) ⌝ }
+{
+    let mut value = [0u32; 6];
+    let count = blocks(image, &mut value);
     Most {
         answer: count.answer,
         reads: count.reads,

@@ -5,7 +5,7 @@ ghost use mathlib.Core.List.{[], _∷_, _++_};
 ghost use Prim.Native.Nat.{suc, _+_, _≤_, _<_};
 ghost use lib.ListN.{length, drop};
 ghost use Rattle.model.specs.Table.{Shaped};
-ghost use Rattle.model.specs.Ipv4.{ipv4};
+ghost use Rattle.model.specs.Ipv4.{kindIn};
 ghost use Rattle.rows.specs.Rows.{Scratch};
 ghost use Rattle.table.specs.Rows.{kindOf};
 ghost use Rattle.layout.specs.Store.{tableOf, passes};
@@ -101,24 +101,41 @@ pub fn freeze_in(
 
 // The words that the image of a store takes: 9, or the exact total.
 pub fn total(words: &[u32]) -> Size
-    ensures { λ r. ⌜ (r .answer ≡ totalSays ipv4 (now (words .entry))) × (r .words ≡ totalGives ipv4 (now (words .entry))) ⌝ }
+    ensures { λ r. ⌜ (r .answer ≡ totalSays (kindIn (now (words .entry))) (now (words .entry))) × (r .words ≡ totalGives (kindIn (now (words .entry))) (now (words .entry))) ⌝ }
 {
-    let mut sets = [0u16; ipv4::SCRATCH];
-    let mut ends = [0u32; ipv4::SCRATCH];
-    total_in(words, &ipv4::TOPS, ipv4::shape(), &mut sets, &mut ends)
+    if ipv4::is_large(words) {
+        let mut sets = [0u16; ipv4::LARGE];
+        let mut ends = [0u32; ipv4::LARGE];
+        return total_in(words, &ipv4::TOPS, ipv4::shape(true), &mut sets, &mut ends);
+    }
+    let mut sets = [0u16; ipv4::SMALL];
+    let mut ends = [0u32; ipv4::SMALL];
+    total_in(words, &ipv4::TOPS, ipv4::shape(false), &mut sets, &mut ends)
 }
 
 // Freezes a store into the first words of a slice: 9, then 8 where the slice is shorter than the total.
 pub fn freeze(words: &[u32], image: &mut [u32]) -> u32
-    ensures { λ r. ⌜ (r ≡ freezeSays ipv4 (now (words .entry)) (now (image .entry))) × (now (image .exit) ≡ freezeWords ipv4 (now (words .entry)) (now (image .entry))) ⌝ }
+    ensures { λ r. ⌜ (r ≡ freezeSays (kindIn (now (words .entry))) (now (words .entry)) (now (image .entry))) × (now (image .exit) ≡ freezeWords (kindIn (now (words .entry))) (now (words .entry)) (now (image .entry))) ⌝ }
 {
-    let mut sets = [0u16; ipv4::SCRATCH];
-    let mut ends = [0u32; ipv4::SCRATCH];
+    if ipv4::is_large(words) {
+        let mut sets = [0u16; ipv4::LARGE];
+        let mut ends = [0u32; ipv4::LARGE];
+        return freeze_in(
+            words,
+            image,
+            &ipv4::TOPS,
+            ipv4::shape(true),
+            &mut sets,
+            &mut ends,
+        );
+    }
+    let mut sets = [0u16; ipv4::SMALL];
+    let mut ends = [0u32; ipv4::SMALL];
     freeze_in(
         words,
         image,
         &ipv4::TOPS,
-        ipv4::shape(),
+        ipv4::shape(false),
         &mut sets,
         &mut ends,
     )

@@ -7,7 +7,7 @@ use Prim.Native.Nat.{ℕ, zero, suc, _+_, _-_, _*_, _≤_, _<_}
 use native.Mathlib.Omega.{arith}
 use native.Mathlib.Numerals.{add-one}
 use lib.Dec.{ltb}
-use lib.ListN.{length, getD, take, drop, set, replicate, length-append, length-take, length-drop, List·getD-append, List·getD-eq-default, drop-of-length-le}
+use lib.ListN.{length, getD, take, drop, set, replicate, length-append, length-take, length-drop, length-replicate, List·getD-append, List·getD-eq-default, drop-of-length-le}
 use lib.Seq.{take-at, drop-at, take-suc-set, take-length, getD-take, getD-drop, getD-append-add, length-take-le}
 use borrow.Rule.Slice.PartMut.{putMid}
 use borrow.Author.Tests.{ltb-true, ltb-false, le-ltb}
@@ -15,10 +15,10 @@ use Rattle.model.specs.Lists.{upTo}
 use Rattle.model.specs.Table.{Kind, Shaped, Table, rowWords, within, stands, withRule, without}
 use Rattle.model.proofs.Tests.{by-test}
 use Rattle.model.proofs.UpTo.{length-upTo, getD-upTo, upTo-is}
-use Rattle.model.proofs.Grid.{row-ends, row-starts}
+use Rattle.model.proofs.Grid.{row-ends, row-starts, grid-is}
 use Rattle.model.proofs.Limits.{from-within}
 use Rattle.model.proofs.Edits.{length-added, length-removed}
-use Rattle.table.specs.Rows.{rowWord, rowsText, ruleIn, ahead, putWord, takeWord}
+use Rattle.table.specs.Rows.{rowWord, placed, rowsText, ruleIn, ahead, putWord, takeWord, Copied}
 use Rattle.table.proofs.Laws.{row-none, row-in, row-past}
 use Rattle.table.proofs.Edits.{rows-long, rows-at, rows-past, placed-past, put-rows, take-rows}
 use Rattle.layout.specs.Store.{headText}
@@ -174,3 +174,37 @@ fresh-front k s c t front h rows l e f =
     let z : length (h ++ drop (k .head) front) - k .head ≡ length (drop (k .head) front) = simp length-append (omega arith) in
     ap₂ (λ p q. p ++ (rows ++ q)) (take-at h (drop (k .head) front) (k .head) y ∙ g) (ap₂ drop z d ∙ drop-of-length-le (drop (k .head) front) {i = length (drop (k .head) front)} (omega arith))
     ∙ ap (λ q. headText k c (length (t .rules)) ++ q) (append-nil rows ∙ f)
+
+-- A FRONT FOR ROWS THAT ARE LENT, as a store of the kind j has them: word q of row p, which is 0 where that kind has no such row
+word-of : (j : Kind) (t : Table) → length (t .rules) ≤ j .most → (p q : ℕ) → q < j .width → getD (rowsText j t) (j .width * p + q) 0 ≡ rowWord (placed j t p) q
+word-of j t fit p q v = by-test (ltb (j .most) p)
+    (λ b. let past = ltb-true (j .most) p b in rows-past j t (j .width * p + q) (omega (arith, row-starts (j .width) (suc (j .most)) p past)) ∙ sym (rw (placed-past j t p (omega arith)) (row-none q)))
+    (λ b. rows-at j t p q (ltb-false (j .most) p b) v)
+
+-- the rule at a place goes by the fields alone
+placed-same : (j k : Kind) (t : Table) (p : ℕ) → j .tops ≡ k .tops → placed j t p ≡ placed k t p
+unfolding placed
+placed-same j k t p e = rw e
+
+-- copied, with zeros behind them, they are the rows of a kind with the same fields and the same width
+carried-rows : (j k : Kind) (t : Table) (rows before out : List ℕ) (E : ℕ) → j .tops ≡ k .tops → j .width ≡ k .width → length (t .rules) ≤ j .most → rows ≡ rowsText j t → length out ≡ rowWords k → E ≡ rowWords k → Copied rows 0 before out 0 E → out ≡ rowsText k t
+unfolding rowsText
+carried-rows j k t rows before out E fields wide fit e l f c = grid-is 0 out (k .width) (suc (k .most)) (λ p. rowWord (placed k t p)) l
+    (λ p q u v.
+    let i = k .width * p + q in
+    let z : 0 + (i - 0) ≡ j .width * p + q = rw wide (omega arith) in
+    let r : getD rows (0 + (i - 0)) 0 ≡ rowWord (placed k t p) q = rw (z, e, ← placed-same j k t p fields) (word-of j t fit p q (omega arith)) in
+    c .new i (omega arith) (omega (arith, row-ends (k .width) p (suc (k .most)) u)) ∙ r)
+
+-- and with a head before them they are the front of the table
+pub carried-front : (k : Kind) (s : Shaped k) (c n : ℕ) (front h rows before out : List ℕ) → length front ≡ k .head + rowWords k
+    → h ≡ c ∷ n ∷ k .mark ∷ replicate (length (take (k .head) front) - 3) 0
+    → length out ≡ length (take (length (h ++ drop (k .head) front) - k .head) (drop (k .head) (h ++ drop (k .head) front)))
+    → Copied rows 0 before out 0 (length front - k .head)
+    → (j : Kind) (t : Table) → j .tops ≡ k .tops → j .width ≡ k .width → n ≡ length (t .rules) → n ≤ j .most → rows ≡ rowsText j t
+    → putMid (k .head) (length (h ++ drop (k .head) front) - k .head) (h ++ drop (k .head) front) out ≡ frontText k c t
+carried-front k s c n front h rows before out l e m copied j t fields wide count fit f =
+    let x = length-take-le (k .head) front (omega arith) in
+    let y : length h ≡ k .head = ap length e ∙ omega (arith, length-replicate {A = ℕ} (length (take (k .head) front) - 3) 0, s .three) in
+    let z = simp (length-take, length-drop, length-append) at m in
+    fresh-front k s c t front h out l (rw count at e) (carried-rows j k t rows before out _ fields wide (omega arith) f (omega arith) (omega arith) copied)

@@ -1,11 +1,11 @@
-// What stands before the two links of a store of any kind, its head and its rows: written for a fresh store, and edited where it stands.
+// What stands before the two links of a store of any kind, its head and its rows: written for a fresh store and for a table that is carried into it, and edited where it stands.
 ghost use mathlib.Core.Path.{_≡_};
 ghost use mathlib.Core.Bool.{true};
 ghost use mathlib.Core.List.{[], _∷_};
 ghost use Prim.Native.Nat.{ℕ, _+_, _*_, _-_, _≤_, _<_};
 ghost use lib.ListN.{length, getD, replicate};
-ghost use Rattle.model.specs.Table.{Shaped, Table, rowWords, within, stands, withRule, without};
-ghost use Rattle.table.specs.Rows.{kindOf, ruleIn, ahead};
+ghost use Rattle.model.specs.Table.{Kind, Shaped, Table, rowWords, within, stands, withRule, without};
+ghost use Rattle.table.specs.Rows.{kindOf, rowsText, ruleIn, ahead};
 ghost use Rattle.layout.specs.Inner.{frontText};
 use table::Shape;
 
@@ -32,6 +32,17 @@ pub fn fresh(front: &mut [u32], c: u32, action: u32, tops: &[u32], shape: Shape)
     let head = shape.head as usize;
     write_head(&mut front[..head], c, 0, shape.mark);
     table::fresh(action, tops, shape, &mut front[head..]);
+}
+
+// Writes the front of a store of c cells that holds a table of n rules, whose rows are lent as a store of any kind with the same fields and the same width of a row has them. Zeros stand behind them.
+pub fn carried(front: &mut [u32], c: u32, n: u32, rows: &[u32], tops: &[u32], shape: Shape)
+    requires { ⌜ Shaped (kindOf (now tops) shape) × (length (now front) ≡ shape .head + rowWords (kindOf (now tops) shape)) ⌝ }
+    ensures { λ _. ⌜ ((old : Kind) (t : Table) → old .tops ≡ now (tops .entry) → old .width ≡ shape .width → n ≡ length (t .rules) → n ≤ old .most → now (rows .entry) ≡ rowsText old t → now (front .exit) ≡ frontText (kindOf (now (tops .entry)) shape) c t) ⌝ }
+{
+    let head = shape.head as usize;
+    let end = front.len() - head;
+    write_head(&mut front[..head], c, n, shape.mark);
+    table::copy(rows, 0, &mut front[head..], 0, end);
 }
 
 // Puts a rule, which is lent as the words of its row, into the front of a store with n rules, behind as many of them as stand before it. Only rows that hold a rule are moved.

@@ -6,7 +6,7 @@ use Prim.Native.Nat.{ℕ}
 use lib.Dec.{leb, eqb}
 use lib.ListN.{length, getD, drop}
 use Rattle.model.specs.Table.{Kind, front, packetRight}
-use Rattle.model.specs.Ipv4.{ipv4}
+use Rattle.model.specs.Ipv4.{kindIn}
 use Rattle.header.specs.declared.Header.{Header}
 use Rattle.header.specs.Header.{headerOf, answerOf, valuesOf}
 use Rattle.lookup.specs.declared.Found.{Found}
@@ -29,7 +29,7 @@ imageLookup k image vs = cond (packetRight k vs) (imageIn k image vs) (refused 1
 
 -- THE LOOKUP BY AN IPV4 PACKET, by the number and the values of its header: 7 or 14 where the header gives no values, "as before"; else the lookup by the header's values
 abbrev pub imageHeader : List ℕ → Header → Found
-imageHeader image h = cond (eqb (answerOf h) 0) (imageLookup ipv4 image (valuesOf h)) (refused (answerOf h))
+imageHeader image h = cond (eqb (answerOf h) 0) (imageLookup (kindIn image) image (valuesOf h)) (refused (answerOf h))
 
 unfoldable pub imagePacket : List ℕ → List ℕ → Found
 imagePacket image packet = imageHeader image (headerOf packet)

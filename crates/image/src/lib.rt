@@ -4,7 +4,7 @@ ghost use mathlib.Core.List.{[], _∷_};
 ghost use Prim.Native.Nat.{_+_, _*_, _≤_};
 ghost use lib.ListN.{length, getD};
 ghost use Rattle.model.specs.Table.{Shaped};
-ghost use Rattle.model.specs.Ipv4.{ipv4};
+ghost use Rattle.model.specs.Ipv4.{kindIn};
 ghost use Rattle.table.specs.Rows.{kindOf};
 ghost use Rattle.tally.specs.Tally.{tallies};
 ghost use Rattle.image.specs.Walk.{isBelow, rank as rankOf, seekBlocks, walkBlocks};
@@ -87,17 +87,20 @@ pub fn lookup_in(image: &[u32], values: &[u32], tops: &[u32], shape: Shape) -> F
     requires { ⌜ Shaped (kindOf (now tops) shape) × (length (now values) ≤ 64) ⌝ }
     ensures { λ r. ⌜ r ≡ imageIn (kindOf (now (tops .entry)) shape) (now (image .entry)) (now (values .entry)) ⌝ }
 {
-    let from = (table::rows_end(shape) as usize) + 2;
-    if image.len() < from {
+    if image.len() < 3 {
         return lookup::refuse(9);
     }
     if image[2] != shape.mark {
         return lookup::refuse(9);
     }
+    let from = (table::rows_end(shape) as usize) + 2;
+    if image.len() < from {
+        return lookup::refuse(9);
+    }
     lookup::found_in(image, walk(&image[from..], values), tops, shape)
 }
 
-// The lookup of a packet's six values: 11 where one is above its top.
+// The lookup of a packet's six values, over an image of the kind that word 2 names: 11 where one is above its top.
 pub fn lookup(
     image: &[u32],
     destination: u32,
@@ -107,7 +110,7 @@ pub fn lookup(
     source_port: u32,
     portless: u32,
 ) -> Found
-    ensures { λ r. ⌜ r ≡ imageLookup ipv4 (now (image .entry)) (destination ∷ source ∷ protocol ∷ «destination_port» ∷ «source_port» ∷ portless ∷ []) ⌝ }
+    ensures { λ r. ⌜ r ≡ imageLookup (kindIn (now (image .entry))) (now (image .entry)) (destination ∷ source ∷ protocol ∷ «destination_port» ∷ «source_port» ∷ portless ∷ []) ⌝ }
 {
     if !ipv4::right(
         destination,
@@ -127,7 +130,12 @@ pub fn lookup(
         source_port,
         portless,
     ];
-    lookup_in(image, &values, &ipv4::TOPS, ipv4::shape())
+    lookup_in(
+        image,
+        &values,
+        &ipv4::TOPS,
+        ipv4::shape(ipv4::is_large(image)),
+    )
 }
 
 // The lookup of an IPv4 packet, whose bytes begin at its header: the number of the header's case where it gives no values, and no lookup is begun.
@@ -153,9 +161,9 @@ pub fn lookup_packet(image: &[u32], packet: &[u8]) -> Found
 pub fn lookup_packet_tally(
     image: &[u32],
     packet: &[u8],
-    key: &mut [u32; 65],
-    packets: &mut [u32; 65],
-    bytes: &mut [u32; 65],
+    key: &mut [u32; tally::PLACES],
+    packets: &mut [u32; tally::PLACES],
+    bytes: &mut [u32; tally::PLACES],
 ) -> Found
     ensures { λ r. ⌜ (r ≡ imageTally (now (image .entry)) (now (packet .entry)) (tallies (now (key .entry)) (now (packets .entry)) (now (bytes .entry)))) × (tallies (now (key .exit)) (now (packets .exit)) (now (bytes .exit)) ≡ imageTallies (now (image .entry)) (now (packet .entry)) (tallies (now (key .entry)) (now (packets .entry)) (now (bytes .entry)))) ⌝ }
 {

@@ -6,7 +6,7 @@ ghost use lib.ListN.{length};
 ghost use Rattle.model.specs.Lists.{same};
 ghost use Rattle.model.specs.Rules.{cells};
 ghost use Rattle.model.specs.Table.{Shaped, front};
-ghost use Rattle.model.specs.Ipv4.{ipv4};
+ghost use Rattle.model.specs.Ipv4.{kindIn};
 ghost use Rattle.rows.specs.Rows.{treeAt, Scratch};
 ghost use Rattle.table.specs.Rows.{kindOf, places as placesOf};
 ghost use Rattle.blocks.specs.Blocks.{blocksText};
@@ -121,11 +121,16 @@ pub fn check_in(
     body_is(image, n, tops, shape, sets, ends)
 }
 
-// The check of an image.
+// The check of an image, of the kind that word 2 names.
 pub fn check(image: &[u32]) -> bool
-    ensures { λ r. ⌜ r ≡ imagePasses ipv4 (now (image .entry)) ⌝ }
+    ensures { λ r. ⌜ r ≡ imagePasses (kindIn (now (image .entry))) (now (image .entry)) ⌝ }
 {
-    let mut sets = [0u16; ipv4::SCRATCH];
-    let mut ends = [0u32; ipv4::SCRATCH];
-    check_in(image, &ipv4::TOPS, ipv4::shape(), &mut sets, &mut ends)
+    if ipv4::is_large(image) {
+        let mut sets = [0u16; ipv4::LARGE];
+        let mut ends = [0u32; ipv4::LARGE];
+        return check_in(image, &ipv4::TOPS, ipv4::shape(true), &mut sets, &mut ends);
+    }
+    let mut sets = [0u16; ipv4::SMALL];
+    let mut ends = [0u32; ipv4::SMALL];
+    check_in(image, &ipv4::TOPS, ipv4::shape(false), &mut sets, &mut ends)
 }

@@ -7,12 +7,12 @@ use Prim.Native.Nat.{ℕ, _≤_, _<_}
 use lib.Dec.{leb}
 use borrow.Author.Tests.{le-leb, lt-leb}
 use Rattle.model.specs.Table.{packetRight}
-use Rattle.model.specs.Ipv4.{ipv4}
+use Rattle.model.specs.Ipv4.{large}
 use Rattle.model.proofs.Tests.{and-true}
 
 module _ (d s p dp sp m : ℕ) (hd : d ≤ 4294967295) (hs : s ≤ 4294967295) where
   abbrev Right : Bool → Type 0
-  Right b = b ≡ packetRight ipv4 (d ∷ s ∷ p ∷ dp ∷ sp ∷ m ∷ [])
+  Right b = b ≡ packetRight large (d ∷ s ∷ p ∷ dp ∷ sp ∷ m ∷ [])
 
   pub protocol-high : 255 < p → Right false
   protocol-high h = simp (le-leb d _ hd, le-leb s _ hs, lt-leb p 255 h)

@@ -1,9 +1,9 @@
-// The kind of store of the IPv4 gateway, and a rule as its caller has it: six low and six high ends by field. Here alone the code has the numbers of the layout and the tops; the six fields stand by name also where a packet's values are taken one by one.
+// The two kinds of store of the IPv4 gateway, and a rule as its caller has it: six low and six high ends by field. Here alone the code has the numbers of the layout and the tops; the six fields stand by name also where a packet's values are taken one by one.
 ghost use mathlib.Core.Path.{_≡_};
 ghost use mathlib.Core.List.{[], _∷_};
 ghost use lib.ListN.{length};
 ghost use Rattle.model.specs.Table.{packetRight};
-ghost use Rattle.model.specs.Ipv4.{ipv4};
+ghost use Rattle.model.specs.Ipv4.{ipv4, large, isLarge};
 ghost use Rattle.table.specs.Rows.{kindOf, ruleIn};
 ghost use Rattle.ipv4.specs.Rule.{given};
 use table::Shape;
@@ -11,13 +11,35 @@ use table::Shape;
 // The top of each field.
 pub const TOPS: [u32; 6] = [4294967295, 4294967295, 255, 65535, 65535, 1];
 
-// Scratch for the sets of its rules, and for their ends: for each field, and once more, a number for each of 65 rows.
-pub const SCRATCH: usize = 455;
+// Scratch for the sets of the rules of a small store, and for their ends: for each field, and once more, a number for each of 65 rows.
+pub const SMALL: usize = 455;
 
-// The shape of its stores.
-pub fn shape() -> Shape
-    ensures { λ r. ⌜ kindOf (ipv4 .tops) r ≡ ipv4 ⌝ }
+// The same for a large store, of 513 rows.
+pub const LARGE: usize = 3591;
+
+// Whether the words, of a store or of an image, name the kind of large stores.
+pub fn is_large(words: &[u32]) -> bool
+    ensures { λ r. ⌜ r ≡ isLarge (now (words .entry)) ⌝ }
 {
+    if words.len() < 3 {
+        return false;
+    }
+    words[2] == 4
+}
+
+// The shape of large stores, or of small ones.
+pub fn shape(large: bool) -> Shape
+    ensures { λ r. ⌜ kindOf (ipv4 large .tops) r ≡ ipv4 large ⌝ }
+{
+    if large {
+        return Shape {
+            ports: 3,
+            most: 512,
+            width: 15,
+            head: 495,
+            mark: 4,
+        };
+    }
     Shape {
         ports: 3,
         most: 64,
@@ -36,7 +58,7 @@ pub fn right(
     source_port: u32,
     portless: u32,
 ) -> bool
-    ensures { λ r. ⌜ r ≡ packetRight ipv4 (destination ∷ source ∷ protocol ∷ «destination_port» ∷ «source_port» ∷ portless ∷ []) ⌝ }
+    ensures { λ r. ⌜ r ≡ packetRight large (destination ∷ source ∷ protocol ∷ «destination_port» ∷ «source_port» ∷ portless ∷ []) ⌝ }
 {
     if 255 < protocol {
         return false;

@@ -3,7 +3,7 @@
 use mathlib.Core.Bool.{Bool, cond, _&&_}
 use mathlib.Core.List.{List, [], _∷_, _++_, map}
 use Prim.Native.Nat.{ℕ, _+_, _-_, _*_}
-use lib.Dec.{leb, eqb}
+use lib.Dec.{ltb, leb, eqb}
 use lib.ListN.{length, getD, take, drop, replicate}
 use Rattle.model.specs.Lists.{same}
 use Rattle.model.specs.Table.{Kind, Rule, Table, rowWords, front, within, withRule, without, insertAnswer, deleteAnswer, readAnswer, readRule, placeAnswer, placeRule, cellsOf}
@@ -11,7 +11,7 @@ use Rattle.cells.specs.Text.{part}
 use Rattle.table.specs.Rows.{rowsText, tableIn}
 use Rattle.layout.specs.Named.{stored}
 
--- "A store of c cells [..] takes 1,024 + 8 × c words of 32 bits": the front of its kind, and 8 for each cell
+-- "A store of c cells [..] takes 1,024 + 8 × c words of 32 bits", and by P9 "a new store takes 8,192 + 8 × c words": the front of its kind, and 8 for each cell
 abbrev pub size : Kind → ℕ → ℕ
 size k c = front k + 8 * c
 
@@ -102,3 +102,10 @@ cellsSays k ws = checked k ws 0
 
 abbrev pub cellsGives : Kind → List ℕ → ℕ
 cellsGives k ws = cond (passes k ws) (cellsOf k (tableOf k ws)) 0
+
+-- CARRY: the table of a store of the kind j into lent words, as a store of the kind k, "started with a c of its own": "9 for the old store, 8 as for a start, then 6", where the table's tree has more than c locations. The old store's words are only read.
+abbrev pub carrySays : Kind → Kind → List ℕ → List ℕ → ℕ → ℕ
+carrySays j k from ws c = checked j from (cond (roomFor k c ws) (cond (ltb c (cellsOf k (tableOf j from))) 6 0) 8)
+
+abbrev pub carryWords : Kind → Kind → List ℕ → List ℕ → ℕ → List ℕ
+carryWords j k from ws c = unless (carrySays j k from ws c) (holding k c (tableOf j from) ws) ws

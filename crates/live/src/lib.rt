@@ -3,7 +3,7 @@ ghost use mathlib.Core.Path.{_≡_};
 ghost use Prim.Native.Nat.{suc};
 ghost use lib.ListN.{length};
 ghost use Rattle.model.specs.Table.{Shaped};
-ghost use Rattle.model.specs.Ipv4.{ipv4};
+ghost use Rattle.model.specs.Ipv4.{kindIn};
 ghost use Rattle.rows.specs.Rows.{Scratch};
 ghost use Rattle.table.specs.Rows.{kindOf};
 ghost use Rattle.live.specs.Live.{life, lifeOf, deadSays, Standing, placeOf};
@@ -66,22 +66,43 @@ pub fn dead_in(
     Fate { answer, dead: 1 }
 }
 
-// Whether the rule of a number is dead, and for a live one the least record; the default's under 65,535.
-pub fn dead(words: &[u32], number: u32) -> Life
-    ensures { λ r. ⌜ r ≡ deadSays ipv4 (now (words .entry)) number ⌝ }
+// The same for the kind that word 2 names.
+fn fate_of(words: &[u32], number: u32, out: &mut [u32]) -> Fate
+    requires { ⌜ length (now out) ≡ 6 ⌝ }
+    ensures { λ r. ⌜ life (r .answer) (r .dead) (now (out .exit)) ≡ lifeOf (kindIn (now (words .entry))) (now (words .entry)) number (now (out .entry)) ⌝ }
 {
-    let mut sets = [0u16; ipv4::SCRATCH];
-    let mut ends = [0u32; ipv4::SCRATCH];
-    let mut value = [0u32; 6];
-    let fate = dead_in(
+    if ipv4::is_large(words) {
+        let mut sets = [0u16; ipv4::LARGE];
+        let mut ends = [0u32; ipv4::LARGE];
+        return dead_in(
+            words,
+            number,
+            &ipv4::TOPS,
+            ipv4::shape(true),
+            &mut sets,
+            &mut ends,
+            out,
+        );
+    }
+    let mut sets = [0u16; ipv4::SMALL];
+    let mut ends = [0u32; ipv4::SMALL];
+    dead_in(
         words,
         number,
         &ipv4::TOPS,
-        ipv4::shape(),
+        ipv4::shape(false),
         &mut sets,
         &mut ends,
-        &mut value,
-    );
+        out,
+    )
+}
+
+// Whether the rule of a number is dead, and for a live one the least record; the default's under 65,535.
+pub fn dead(words: &[u32], number: u32) -> Life
+    ensures { λ r. ⌜ r ≡ deadSays (kindIn (now (words .entry))) (now (words .entry)) number ⌝ }
+{
+    let mut value = [0u32; 6];
+    let fate = fate_of(words, number, &mut value);
     Life {
         answer: fate.answer,
         dead: fate.dead,

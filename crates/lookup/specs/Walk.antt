@@ -6,7 +6,7 @@ use Prim.Native.Nat.{ℕ, zero, suc, _+_, _*_, _%_}
 use lib.Dec.{ltb, leb, eqb}
 use lib.ListN.{getD}
 use Rattle.model.specs.Table.{Kind, packetRight}
-use Rattle.model.specs.Ipv4.{ipv4}
+use Rattle.model.specs.Ipv4.{kindIn}
 use Rattle.header.specs.declared.Header.{Header}
 use Rattle.header.specs.Header.{headerOf, answerOf, valuesOf}
 use Rattle.cells.specs.Text.{cellWord}
@@ -71,7 +71,7 @@ lookupValues k words vs = cond (packetRight k vs) (lookupIn k words vs) (refused
 
 -- THE LOOKUP BY AN IPV4 PACKET, by the number and the values of its header: "Where the header gives no values, no lookup is begun", and the answer is the number of its case, 7 or 14; else the lookup by the header's values
 abbrev pub lookupHeader : List ℕ → Header → Found
-lookupHeader words h = cond (eqb (answerOf h) 0) (lookupValues ipv4 words (valuesOf h)) (refused (answerOf h))
+lookupHeader words h = cond (eqb (answerOf h) 0) (lookupValues (kindIn words) words (valuesOf h)) (refused (answerOf h))
 
 unfoldable pub lookupPacket : List ℕ → List ℕ → Found
 lookupPacket words packet = lookupHeader words (headerOf packet)

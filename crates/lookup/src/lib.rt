@@ -4,7 +4,7 @@ ghost use mathlib.Core.List.{[], _∷_};
 ghost use Prim.Native.Nat.{_+_, _*_, _≤_};
 ghost use lib.ListN.{length};
 ghost use Rattle.model.specs.Table.{Shaped, front};
-ghost use Rattle.model.specs.Ipv4.{ipv4};
+ghost use Rattle.model.specs.Ipv4.{kindIn};
 ghost use Rattle.table.specs.Rows.{kindOf};
 ghost use Rattle.layout.specs.Store.{size, cellsIn};
 ghost use Rattle.lookup.specs.Walk.{seekOf, walkOf, refused, partIn, foundIn, lookupIn, lookupValues, lookupPacket};
@@ -137,7 +137,7 @@ pub fn lookup_in(words: &[u32], values: &[u32], tops: &[u32], shape: Shape) -> F
     decide(words, c, values, tops, shape)
 }
 
-// The lookup of a packet's six values: 11 where one is above its top.
+// The lookup of a packet's six values, in a store of the kind that word 2 names: 11 where one is above its top. Each kind has a branch of its own, so that the place of the first link does not wait for word 2 to be loaded.
 pub fn lookup(
     words: &[u32],
     destination: u32,
@@ -147,7 +147,7 @@ pub fn lookup(
     source_port: u32,
     portless: u32,
 ) -> Found
-    ensures { λ r. ⌜ r ≡ lookupValues ipv4 (now (words .entry)) (destination ∷ source ∷ protocol ∷ «destination_port» ∷ «source_port» ∷ portless ∷ []) ⌝ }
+    ensures { λ r. ⌜ r ≡ lookupValues (kindIn (now (words .entry))) (now (words .entry)) (destination ∷ source ∷ protocol ∷ «destination_port» ∷ «source_port» ∷ portless ∷ []) ⌝ }
 {
     if !ipv4::right(
         destination,
@@ -167,7 +167,10 @@ pub fn lookup(
         source_port,
         portless,
     ];
-    lookup_in(words, &values, &ipv4::TOPS, ipv4::shape())
+    if ipv4::is_large(words) {
+        return lookup_in(words, &values, &ipv4::TOPS, ipv4::shape(true));
+    }
+    lookup_in(words, &values, &ipv4::TOPS, ipv4::shape(false))
 }
 
 // The lookup of an IPv4 packet, whose bytes begin at its header: the number of the header's case where it gives no values, and no lookup is begun.

@@ -7,7 +7,7 @@ use mathlib.Core.Option.{some}
 use Prim.Native.Nat.{ℕ}
 use Rattle.model.specs.Rules.{found, reads, values}
 use Rattle.model.specs.Table.{Rule, Table, startAction, fields, treeOf, winnerOf, readsOf, cellsOf, within, withRule, without, insertAnswer}
-use Rattle.model.specs.Ipv4.{ipv4}
+use Rattle.model.specs.Ipv4.{large}
 
 -- "Rule 10: destination 10.0.0.0 to 10.0.0.255, any source, protocol 17, destination port 5000 to 5009, any source port, action 2", and by P4 "Bench rule 10 asks 0 to 0"
 abbrev pub rule10 : Rule
@@ -48,29 +48,29 @@ rows =
 
 -- the row that the definitions give for a packet, with no tree
 abbrev pub decided : List ℕ → Row
-decided p = record { asked = p; rule = winnerOf ipv4 both p .number; action = winnerOf ipv4 both p .action; reads = readsOf ipv4 both p }
+decided p = record { asked = p; rule = winnerOf large both p .number; action = winnerOf large both p .action; reads = readsOf large both p }
 
 -- the starred cases of document 01, in its order
 pub record Starred : Type 0 where
   -- the seven lookups, with rule, action and reads: "All reads in the cases rise by one", and by P7 "the default's rows show action 0"
   pub lookups : map (λ r. decided (r .asked)) rows ≡ rows
   -- a walk of the tree finds the same, with as many reads
-  pub walks : map (λ r. found (treeOf ipv4 both) (values (fields ipv4) (r .asked))) rows ≡ map (λ r. some (winnerOf ipv4 both (r .asked))) rows
-  pub walk-reads : map (λ r. reads (treeOf ipv4 both) (values (fields ipv4) (r .asked))) rows ≡ map (λ r. r .reads) rows
+  pub walks : map (λ r. found (treeOf large both) (values (fields large) (r .asked))) rows ≡ map (λ r. some (winnerOf large both (r .asked))) rows
+  pub walk-reads : map (λ r. reads (treeOf large both) (values (fields large) (r .asked))) rows ≡ map (λ r. r .reads) rows
   -- cells: rule 20 alone, rule 10 alone, both in either order, and after rule 20 goes again
-  pub cells20 : cellsOf ipv4 (withRule rule20 fresh) ≡ 18
-  pub cells10 : cellsOf ipv4 (withRule rule10 fresh) ≡ 33
-  pub cells-both : cellsOf ipv4 both ≡ 54
+  pub cells20 : cellsOf large (withRule rule20 fresh) ≡ 18
+  pub cells10 : cellsOf large (withRule rule10 fresh) ≡ 33
+  pub cells-both : cellsOf large both ≡ 54
   pub either-order : withRule rule10 (withRule rule20 fresh) ≡ both
   pub again : without 20 both ≡ withRule rule10 fresh
   -- with c = 53 the second insert gets 6, with 54 it is taken, in either order
-  pub full-53 : insertAnswer ipv4 53 (withRule rule10 fresh) rule20 ≡ 6
-  pub taken-54 : insertAnswer ipv4 54 (withRule rule10 fresh) rule20 ≡ 0
-  pub full-53' : insertAnswer ipv4 53 (withRule rule20 fresh) rule10 ≡ 6
-  pub taken-54' : insertAnswer ipv4 54 (withRule rule20 fresh) rule10 ≡ 0
+  pub full-53 : insertAnswer large 53 (withRule rule10 fresh) rule20 ≡ 6
+  pub taken-54 : insertAnswer large 54 (withRule rule10 fresh) rule20 ≡ 0
+  pub full-53' : insertAnswer large 53 (withRule rule20 fresh) rule10 ≡ 6
+  pub taken-54' : insertAnswer large 54 (withRule rule20 fresh) rule10 ≡ 0
   -- "the default alone takes 6 cells, the bench table 54", and the table is within the limits
-  pub cells-fresh : cellsOf ipv4 fresh ≡ 6
-  pub both-within : within ipv4 both ≡ true
+  pub cells-fresh : cellsOf large fresh ≡ 6
+  pub both-within : within large both ≡ true
 
 pub starred : Starred
 starred = record {

@@ -4,7 +4,7 @@ use mathlib.Core.Bool.{cond}
 use mathlib.Core.List.{List}
 use Prim.Native.Nat.{ℕ}
 use Rattle.model.specs.Table.{Rule}
-use Rattle.model.specs.Ipv4.{ipv4}
+use Rattle.model.specs.Ipv4.{kindIn}
 use Rattle.ipv4.specs.Rule.{six}
 use Rattle.layout.specs.Store.{passes}
 use Rattle.reamstork.specs.declared.Reading.{Reading}
@@ -19,4 +19,4 @@ ruleRead r = ruleOf (r .number) (r .action) (r .low) (r .high)
 
 -- the check says 0 or 9
 abbrev pub checkSays : List ℕ → ℕ
-checkSays ws = cond (passes ipv4 ws) 0 9
+checkSays ws = cond (passes (kindIn ws) ws) 0 9

@@ -2,10 +2,10 @@
 ghost use mathlib.Core.Path.{_≡_};
 ghost use mathlib.Core.List.{[], _∷_};
 ghost use Rattle.model.specs.Table.{startAction};
-ghost use Rattle.model.specs.Ipv4.{ipv4};
+ghost use Rattle.model.specs.Ipv4.{large, kindIn};
 ghost use Rattle.ipv4.specs.Rule.{given};
 ghost use Rattle.prefix.specs.Prefix.{rangeOf};
-ghost use Rattle.layout.specs.Store.{startAnswer, startWords, insertSays, insertWords, deleteSays, deleteWords, readSays, readGives, placeSays, placeGives, cellsSays, cellsGives};
+ghost use Rattle.layout.specs.Store.{startAnswer, startWords, insertSays, insertWords, deleteSays, deleteWords, readSays, readGives, placeSays, placeGives, cellsSays, cellsGives, carrySays, carryWords};
 ghost use Rattle.lookup.specs.Walk.{lookupValues, lookupPacket};
 ghost use Rattle.tally.specs.Tally.{tallyAnswer, talliesLeft, cleared, difference};
 ghost use Rattle.scan.specs.Scan.{scanValues};
@@ -35,18 +35,18 @@ pub struct Reading {
     pub high: [u32; 6],
 }
 
-// Starts a store of c cells without a named action: the default has action 0.
+// Starts a large store of c cells without a named action: the default has action 0.
 #[no_mangle]
 pub extern "C" fn reamstork_start(words: &mut [u32], c: u32) -> u32
-    ensures { λ r. ⌜ (r ≡ startAnswer ipv4 (now (words .entry)) c) × (now (words .exit) ≡ startWords ipv4 (now (words .entry)) c startAction) ⌝ }
+    ensures { λ r. ⌜ (r ≡ startAnswer large (now (words .entry)) c) × (now (words .exit) ≡ startWords large (now (words .entry)) c startAction) ⌝ }
 {
     store::start(words, c, 0)
 }
 
-// Starts a store of c cells whose default rule has an action.
+// Starts a large store of c cells whose default rule has an action.
 #[no_mangle]
 pub extern "C" fn reamstork_start_with(words: &mut [u32], c: u32, action: u32) -> u32
-    ensures { λ r. ⌜ (r ≡ startAnswer ipv4 (now (words .entry)) c) × (now (words .exit) ≡ startWords ipv4 (now (words .entry)) c action) ⌝ }
+    ensures { λ r. ⌜ (r ≡ startAnswer large (now (words .entry)) c) × (now (words .exit) ≡ startWords large (now (words .entry)) c action) ⌝ }
 {
     store::start(words, c, action)
 }
@@ -60,7 +60,7 @@ pub extern "C" fn reamstork_insert(
     low: &[u32; 6],
     high: &[u32; 6],
 ) -> u32
-    ensures { λ r. ⌜ (r ≡ insertSays ipv4 (now (words .entry)) (ruleOf number action (now (low .entry)) (now (high .entry)))) × (now (words .exit) ≡ insertWords ipv4 (now (words .entry)) (ruleOf number action (now (low .entry)) (now (high .entry)))) ⌝ }
+    ensures { λ r. ⌜ (r ≡ insertSays (kindIn (now (words .entry))) (now (words .entry)) (ruleOf number action (now (low .entry)) (now (high .entry)))) × (now (words .exit) ≡ insertWords (kindIn (now (words .entry))) (now (words .entry)) (ruleOf number action (now (low .entry)) (now (high .entry)))) ⌝ }
 {
     let rule = Rule {
         number,
@@ -74,7 +74,7 @@ pub extern "C" fn reamstork_insert(
 // Deletes the rule of a number.
 #[no_mangle]
 pub extern "C" fn reamstork_delete(words: &mut [u32], number: u32) -> u32
-    ensures { λ r. ⌜ (r ≡ deleteSays ipv4 (now (words .entry)) number) × (now (words .exit) ≡ deleteWords ipv4 (now (words .entry)) number) ⌝ }
+    ensures { λ r. ⌜ (r ≡ deleteSays (kindIn (now (words .entry))) (now (words .entry)) number) × (now (words .exit) ≡ deleteWords (kindIn (now (words .entry))) (now (words .entry)) number) ⌝ }
 {
     store::delete(words, number)
 }
@@ -106,7 +106,7 @@ fn for_c(read: store::Reading) -> Reading
 // Reads the rule of a number; the default under 65,535.
 #[no_mangle]
 pub extern "C" fn reamstork_read(words: &[u32], number: u32) -> Reading
-    ensures { λ r. ⌜ (r .answer ≡ readSays ipv4 (now (words .entry)) number) × (ruleRead r ≡ readGives ipv4 (now (words .entry)) number) ⌝ }
+    ensures { λ r. ⌜ (r .answer ≡ readSays (kindIn (now (words .entry))) (now (words .entry)) number) × (ruleRead r ≡ readGives (kindIn (now (words .entry))) (now (words .entry)) number) ⌝ }
 {
     for_c(store::read(words, number))
 }
@@ -114,7 +114,7 @@ pub extern "C" fn reamstork_read(words: &[u32], number: u32) -> Reading
 // Reads the rule at a place. Places are counted from 1, by rising number.
 #[no_mangle]
 pub extern "C" fn reamstork_rule_at(words: &[u32], place: u32) -> Reading
-    ensures { λ r. ⌜ (r .answer ≡ placeSays ipv4 (now (words .entry)) place) × (ruleRead r ≡ placeGives ipv4 (now (words .entry)) place) ⌝ }
+    ensures { λ r. ⌜ (r .answer ≡ placeSays (kindIn (now (words .entry))) (now (words .entry)) place) × (ruleRead r ≡ placeGives (kindIn (now (words .entry))) (now (words .entry)) place) ⌝ }
 {
     for_c(store::rule_at(words, place))
 }
@@ -122,7 +122,7 @@ pub extern "C" fn reamstork_rule_at(words: &[u32], place: u32) -> Reading
 // Counts the cells in use.
 #[no_mangle]
 pub extern "C" fn reamstork_cells(words: &[u32]) -> Count
-    ensures { λ r. ⌜ (r .answer ≡ cellsSays ipv4 (now (words .entry))) × (r .cells ≡ cellsGives ipv4 (now (words .entry))) ⌝ }
+    ensures { λ r. ⌜ (r .answer ≡ cellsSays (kindIn (now (words .entry))) (now (words .entry))) × (r .cells ≡ cellsGives (kindIn (now (words .entry))) (now (words .entry))) ⌝ }
 {
     store::cells(words)
 }
@@ -130,7 +130,7 @@ pub extern "C" fn reamstork_cells(words: &[u32]) -> Count
 // Says whether the rule of a number never wins, and for one that does the least record that it decides.
 #[no_mangle]
 pub extern "C" fn reamstork_dead(words: &[u32], number: u32) -> Life
-    ensures { λ r. ⌜ r ≡ deadSays ipv4 (now (words .entry)) number ⌝ }
+    ensures { λ r. ⌜ r ≡ deadSays (kindIn (now (words .entry))) (now (words .entry)) number ⌝ }
 {
     live::dead(words, number)
 }
@@ -138,9 +138,17 @@ pub extern "C" fn reamstork_dead(words: &[u32], number: u32) -> Life
 // Says the most reads that any values take in a table, and the least record that takes them.
 #[no_mangle]
 pub extern "C" fn reamstork_worst(words: &[u32]) -> Most
-    ensures { λ r. ⌜ r ≡ worstSays ipv4 (now (words .entry)) ⌝ }
+    ensures { λ r. ⌜ r ≡ worstSays (kindIn (now (words .entry))) (now (words .entry)) ⌝ }
 {
     worst::worst(words)
+}
+
+// Carries the table of a store of either kind into lent words, as a large store of c cells.
+#[no_mangle]
+pub extern "C" fn reamstork_carry(from: &[u32], words: &mut [u32], c: u32) -> u32
+    ensures { λ r. ⌜ (r ≡ carrySays (kindIn (now (from .entry))) large (now (from .entry)) (now (words .entry)) c) × (now (words .exit) ≡ carryWords (kindIn (now (from .entry))) large (now (from .entry)) (now (words .entry)) c) ⌝ }
+{
+    store::carry(from, words, c)
 }
 
 // Looks six values up.
@@ -154,7 +162,7 @@ pub extern "C" fn reamstork_lookup(
     source_port: u32,
     portless: u32,
 ) -> Found
-    ensures { λ r. ⌜ r ≡ lookupValues ipv4 (now (words .entry)) (destination ∷ source ∷ protocol ∷ «destination_port» ∷ «source_port» ∷ portless ∷ []) ⌝ }
+    ensures { λ r. ⌜ r ≡ lookupValues (kindIn (now (words .entry))) (now (words .entry)) (destination ∷ source ∷ protocol ∷ «destination_port» ∷ «source_port» ∷ portless ∷ []) ⌝ }
 {
     lookup::lookup(
         words,
@@ -246,7 +254,7 @@ pub extern "C" fn reamstork_tally_difference(earlier: u32, later: u32) -> u32
 // Says how many words the image of a store takes.
 #[no_mangle]
 pub extern "C" fn reamstork_image_words(words: &[u32]) -> Size
-    ensures { λ r. ⌜ (r .answer ≡ totalSays ipv4 (now (words .entry))) × (r .words ≡ totalGives ipv4 (now (words .entry))) ⌝ }
+    ensures { λ r. ⌜ (r .answer ≡ totalSays (kindIn (now (words .entry))) (now (words .entry))) × (r .words ≡ totalGives (kindIn (now (words .entry))) (now (words .entry))) ⌝ }
 {
     freeze::total(words)
 }
@@ -254,7 +262,7 @@ pub extern "C" fn reamstork_image_words(words: &[u32]) -> Size
 // Freezes a store: its image is written into the first words of a slice.
 #[no_mangle]
 pub extern "C" fn reamstork_freeze(words: &[u32], image: &mut [u32]) -> u32
-    ensures { λ r. ⌜ (r ≡ freezeSays ipv4 (now (words .entry)) (now (image .entry))) × (now (image .exit) ≡ freezeWords ipv4 (now (words .entry)) (now (image .entry))) ⌝ }
+    ensures { λ r. ⌜ (r ≡ freezeSays (kindIn (now (words .entry))) (now (words .entry)) (now (image .entry))) × (now (image .exit) ≡ freezeWords (kindIn (now (words .entry))) (now (words .entry)) (now (image .entry))) ⌝ }
 {
     freeze::freeze(words, image)
 }
@@ -262,7 +270,7 @@ pub extern "C" fn reamstork_freeze(words: &[u32], image: &mut [u32]) -> u32
 // The image check: 0 where the words are an image of their exact length, else 9.
 #[no_mangle]
 pub extern "C" fn reamstork_image_check(image: &[u32]) -> u32
-    ensures { λ r. ⌜ r ≡ imageSays ipv4 (now (image .entry)) ⌝ }
+    ensures { λ r. ⌜ r ≡ imageSays (kindIn (now (image .entry))) (now (image .entry)) ⌝ }
 {
     if inspect::check(image) { 0 } else { 9 }
 }
@@ -270,7 +278,7 @@ pub extern "C" fn reamstork_image_check(image: &[u32]) -> u32
 // Says the most blocks that any values read over an image, and the least record that reads so many.
 #[no_mangle]
 pub extern "C" fn reamstork_image_worst(image: &[u32]) -> Most
-    ensures { λ r. ⌜ r ≡ imageWorst ipv4 (now (image .entry)) ⌝ }
+    ensures { λ r. ⌜ r ≡ imageWorst (kindIn (now (image .entry))) (now (image .entry)) ⌝ }
 {
     depths::worst(image)
 }
@@ -286,7 +294,7 @@ pub extern "C" fn reamstork_image_lookup(
     source_port: u32,
     portless: u32,
 ) -> Found
-    ensures { λ r. ⌜ r ≡ imageLookup ipv4 (now (image .entry)) (destination ∷ source ∷ protocol ∷ «destination_port» ∷ «source_port» ∷ portless ∷ []) ⌝ }
+    ensures { λ r. ⌜ r ≡ imageLookup (kindIn (now (image .entry))) (now (image .entry)) (destination ∷ source ∷ protocol ∷ «destination_port» ∷ «source_port» ∷ portless ∷ []) ⌝ }
 {
     image::lookup(
         image,

@@ -7,7 +7,7 @@ use lib.Dec.{leb}
 use lib.ListN.{getD}
 use borrow.Author.Tests.{le-leb, lt-leb}
 use Rattle.model.specs.Table.{packetRight}
-use Rattle.model.specs.Ipv4.{ipv4}
+use Rattle.model.specs.Ipv4.{large}
 use Rattle.model.proofs.Tests.{and-true}
 use Rattle.header.specs.declared.Packet.{Packet}
 use Rattle.header.specs.declared.Header.the-variants.{Values}
@@ -74,10 +74,10 @@ module _ (l : Lead) (r : Given) where
 
 -- THE END
 module _ (l : Lead) where
-  pub end-refused : packetRight ipv4 (valuesOf (Values (l .packet))) ≡ false → noWinner 11 ≡ finished l
+  pub end-refused : packetRight large (valuesOf (Values (l .packet))) ≡ false → noWinner 11 ≡ finished l
   unfolding finished
   end-refused h = rw h
 
-  pub end-named : packetRight ipv4 (valuesOf (Values (l .packet))) ≡ true → record { answer = 0; rule = l .number; action = l .action } ≡ finished l
+  pub end-named : packetRight large (valuesOf (Values (l .packet))) ≡ true → record { answer = 0; rule = l .number; action = l .action } ≡ finished l
   unfolding finished
   end-named h = rw h

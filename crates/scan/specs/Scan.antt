@@ -7,7 +7,7 @@ use lib.Dec.{ltb}
 use Rattle.model.specs.Lists.{keep, least}
 use Rattle.model.specs.Rules.{holds}
 use Rattle.model.specs.Table.{Rule, numberOf, fields, defaultRule, packetRight}
-use Rattle.model.specs.Ipv4.{ipv4}
+use Rattle.model.specs.Ipv4.{large}
 use Rattle.header.specs.declared.Packet.{Packet}
 use Rattle.header.specs.declared.Header.the-variants.{Values}
 use Rattle.header.specs.Header.{valuesOf}
@@ -18,7 +18,7 @@ use Rattle.scan.specs.declared.Lead.{Lead}
 
 -- the rule's ranges all hold the packet's values. "A rule whose low end is above its high end holds nothing": no value is at or above the one and at or below the other.
 abbrev pub holdsPacket : Packet → Rule → Bool
-holdsPacket p r = holds (fields ipv4) (valuesOf (Values p)) r
+holdsPacket p r = holds (fields large) (valuesOf (Values p)) r
 
 -- of some holders the one "of least number; with equal numbers the earlier wins"; d where there is none. (`least` takes a rule that stands behind the list: the first once more, which then changes nothing.)
 abbrev pub firstLeast : Rule → List Rule → Rule
@@ -27,7 +27,7 @@ firstLeast d (r ∷ rs) = least numberOf r (r ∷ rs)
 
 -- the rule that decides for a packet: "with none it gives rule 65,535 and the default action handed to it"
 abbrev pub decider : List Rule → ℕ → Packet → Rule
-decider rs a p = firstLeast (defaultRule ipv4 a) (keep (holdsPacket p) rs)
+decider rs a p = firstLeast (defaultRule large a) (keep (holdsPacket p) rs)
 
 -- what is answered where a rule decides: "It reports no reads"; and "A refusal gives 0 in every other number of its answer"
 abbrev pub named : Rule → Winner
@@ -43,7 +43,7 @@ rulesOf records = map given records
 -- THE SCAN: "Refusals: 11 as before", and nothing else refuses
 unfoldable pub scanValues : List Given → ℕ → ℕ → ℕ → ℕ → ℕ → ℕ → ℕ → Winner
 scanValues records action destination source protocol destinationPort sourcePort portless =
-    cond (packetRight ipv4 (destination ∷ source ∷ protocol ∷ destinationPort ∷ sourcePort ∷ portless ∷ []))
+    cond (packetRight large (destination ∷ source ∷ protocol ∷ destinationPort ∷ sourcePort ∷ portless ∷ []))
     (named (decider (rulesOf records) action (record { destination = destination; source = source; protocol = protocol; «destination_port» = destinationPort; «source_port» = sourcePort; portless = portless })))
     (noWinner 11)
 
@@ -69,4 +69,4 @@ through l (r ∷ rs) = through (stepped l r) rs
 
 -- what is answered once all were looked at
 unfoldable pub finished : Lead → Winner
-finished l = cond (packetRight ipv4 (valuesOf (Values (l .packet)))) (record { answer = 0; rule = l .number; action = l .action }) (noWinner 11)
+finished l = cond (packetRight large (valuesOf (Values (l .packet)))) (record { answer = 0; rule = l .number; action = l .action }) (noWinner 11)

@@ -1,37 +1,45 @@
-// The calls on a store, for the kinds that there are: start, check, insert, delete, read by number and by place, cells in use. Every promise is one equation for the answer and for every lent word, whatever the words hold.
+// The calls on a store, for the two kinds that there are: word 2 of a store names its kind, and what is started is large. The calls are start, check, insert, delete, read by number and by place, cells in use, and carry. Every promise is one equation for the answer and for every lent word, whatever the words hold.
+//
+// A call has a branch for each kind, with the scratch of that kind: setting it to zeros takes the time that the kind needs. The compiled call's frame has room for the larger one.
 ghost use mathlib.Core.Path.{_≡_};
 ghost use Prim.Native.Nat.{_≤_};
 ghost use lib.ListN.{length};
-ghost use Rattle.model.specs.Table.{front};
-ghost use Rattle.model.specs.Ipv4.{ipv4};
+ghost use Rattle.model.specs.Table.{front, readRule, placeRule};
+ghost use Rattle.model.specs.Ipv4.{large, kindIn};
 ghost use Rattle.ipv4.specs.Rule.{given};
+ghost use Rattle.table.specs.Rows.{ruleIn};
 ghost use Rattle.layout.specs.Inner.{ruleFound};
-ghost use Rattle.layout.specs.Store.{passes, startAnswer, startWords, insertSays, insertWords, deleteSays, deleteWords, zeroRule, readSays, readGives, placeSays, placeGives, cellsSays, cellsGives};
+ghost use Rattle.layout.specs.Store.{rowsOf, tableOf, passes, startAnswer, startWords, insertSays, insertWords, deleteSays, deleteWords, zeroRule, readSays, readGives, placeSays, placeGives, cellsSays, cellsGives, carrySays, carryWords};
 use audit::Count;
 use audit::Place;
 use ipv4::Rule;
 
 // The store check.
 pub fn check(words: &[u32]) -> bool
-    ensures { λ r. ⌜ r ≡ passes ipv4 (now (words .entry)) ⌝ }
+    ensures { λ r. ⌜ r ≡ passes (kindIn (now (words .entry))) (now (words .entry)) ⌝ }
 {
-    let mut sets = [0u16; ipv4::SCRATCH];
-    let mut ends = [0u32; ipv4::SCRATCH];
-    audit::check(words, &ipv4::TOPS, ipv4::shape(), &mut sets, &mut ends)
+    if ipv4::is_large(words) {
+        let mut sets = [0u16; ipv4::LARGE];
+        let mut ends = [0u32; ipv4::LARGE];
+        return audit::check(words, &ipv4::TOPS, ipv4::shape(true), &mut sets, &mut ends);
+    }
+    let mut sets = [0u16; ipv4::SMALL];
+    let mut ends = [0u32; ipv4::SMALL];
+    audit::check(words, &ipv4::TOPS, ipv4::shape(false), &mut sets, &mut ends)
 }
 
-// Starts a store of c cells that holds the default rule alone, with an action.
+// Starts a large store of c cells that holds the default rule alone, with an action.
 pub fn start(words: &mut [u32], c: u32, action: u32) -> u32
-    ensures { λ r. ⌜ (r ≡ startAnswer ipv4 (now (words .entry)) c) × (now (words .exit) ≡ startWords ipv4 (now (words .entry)) c action) ⌝ }
+    ensures { λ r. ⌜ (r ≡ startAnswer large (now (words .entry)) c) × (now (words .exit) ≡ startWords large (now (words .entry)) c action) ⌝ }
 {
-    let mut sets = [0u16; ipv4::SCRATCH];
-    let mut ends = [0u32; ipv4::SCRATCH];
+    let mut sets = [0u16; ipv4::LARGE];
+    let mut ends = [0u32; ipv4::LARGE];
     change::start(
         words,
         c,
         action,
         &ipv4::TOPS,
-        ipv4::shape(),
+        ipv4::shape(true),
         &mut sets,
         &mut ends,
     )
@@ -39,16 +47,28 @@ pub fn start(words: &mut [u32], c: u32, action: u32) -> u32
 
 // Inserts a rule.
 pub fn insert(words: &mut [u32], rule: Rule) -> u32
-    ensures { λ r. ⌜ (r ≡ insertSays ipv4 (now (words .entry)) (given rule)) × (now (words .exit) ≡ insertWords ipv4 (now (words .entry)) (given rule)) ⌝ }
+    ensures { λ r. ⌜ (r ≡ insertSays (kindIn (now (words .entry))) (now (words .entry)) (given rule)) × (now (words .exit) ≡ insertWords (kindIn (now (words .entry))) (now (words .entry)) (given rule)) ⌝ }
 {
     let row = ipv4::row_of(rule);
-    let mut sets = [0u16; ipv4::SCRATCH];
-    let mut ends = [0u32; ipv4::SCRATCH];
+    if ipv4::is_large(words) {
+        let mut sets = [0u16; ipv4::LARGE];
+        let mut ends = [0u32; ipv4::LARGE];
+        return change::insert(
+            words,
+            &row,
+            &ipv4::TOPS,
+            ipv4::shape(true),
+            &mut sets,
+            &mut ends,
+        );
+    }
+    let mut sets = [0u16; ipv4::SMALL];
+    let mut ends = [0u32; ipv4::SMALL];
     change::insert(
         words,
         &row,
         &ipv4::TOPS,
-        ipv4::shape(),
+        ipv4::shape(false),
         &mut sets,
         &mut ends,
     )
@@ -56,15 +76,27 @@ pub fn insert(words: &mut [u32], rule: Rule) -> u32
 
 // Deletes the rule of a number.
 pub fn delete(words: &mut [u32], number: u32) -> u32
-    ensures { λ r. ⌜ (r ≡ deleteSays ipv4 (now (words .entry)) number) × (now (words .exit) ≡ deleteWords ipv4 (now (words .entry)) number) ⌝ }
+    ensures { λ r. ⌜ (r ≡ deleteSays (kindIn (now (words .entry))) (now (words .entry)) number) × (now (words .exit) ≡ deleteWords (kindIn (now (words .entry))) (now (words .entry)) number) ⌝ }
 {
-    let mut sets = [0u16; ipv4::SCRATCH];
-    let mut ends = [0u32; ipv4::SCRATCH];
+    if ipv4::is_large(words) {
+        let mut sets = [0u16; ipv4::LARGE];
+        let mut ends = [0u32; ipv4::LARGE];
+        return change::delete(
+            words,
+            number,
+            &ipv4::TOPS,
+            ipv4::shape(true),
+            &mut sets,
+            &mut ends,
+        );
+    }
+    let mut sets = [0u16; ipv4::SMALL];
+    let mut ends = [0u32; ipv4::SMALL];
     change::delete(
         words,
         number,
         &ipv4::TOPS,
-        ipv4::shape(),
+        ipv4::shape(false),
         &mut sets,
         &mut ends,
     )
@@ -78,7 +110,7 @@ pub struct Reading {
 
 // A refusal: its number, and zeros.
 fn refused(answer: u32) -> Reading
-    ensures { λ r. ⌜ (r .answer ≡ answer) × (given (r .rule) ≡ zeroRule ipv4) ⌝ }
+    ensures { λ r. ⌜ (r .answer ≡ answer) × (given (r .rule) ≡ zeroRule large) ⌝ }
 {
     Reading {
         answer,
@@ -93,13 +125,13 @@ fn refused(answer: u32) -> Reading
 
 // The rule of the row that was found, or the refusal.
 fn rule_found(words: &[u32], place: Place) -> Reading
-    requires { ⌜ (place .answer ≡ 0 → front ipv4 ≤ length (now words)) ⌝ }
-    ensures { λ r. ⌜ (r .answer ≡ place .answer) × (given (r .rule) ≡ ruleFound ipv4 (now (words .entry)) (place .answer) (place .row)) ⌝ }
+    requires { ⌜ (place .answer ≡ 0 → front (kindIn (now words)) ≤ length (now words)) ⌝ }
+    ensures { λ r. ⌜ (r .answer ≡ place .answer) × (given (r .rule) ≡ ruleFound (kindIn (now (words .entry))) (now (words .entry)) (place .answer) (place .row)) ⌝ }
 {
     if place.answer != 0 {
         return refused(place.answer);
     }
-    let shape = ipv4::shape();
+    let shape = ipv4::shape(ipv4::is_large(words));
     let head = shape.head as usize;
     let from = table::rows_end(shape) as usize;
     Reading {
@@ -108,45 +140,105 @@ fn rule_found(words: &[u32], place: Place) -> Reading
     }
 }
 
-// Reads the rule of a number; the default under 65,535.
-pub fn read(words: &[u32], number: u32) -> Reading
-    ensures { λ r. ⌜ (r .answer ≡ readSays ipv4 (now (words .entry)) number) × (given (r .rule) ≡ readGives ipv4 (now (words .entry)) number) ⌝ }
+// Where the rule of a number stands; the default under 65,535.
+fn find(words: &[u32], number: u32) -> Place
+    ensures { λ r. ⌜ (r .answer ≡ readSays (kindIn (now (words .entry))) (now (words .entry)) number) × (r .answer ≡ 0 → ruleIn 6 (rowsOf (kindIn (now (words .entry))) (now (words .entry))) (r .row) ≡ readRule (kindIn (now (words .entry))) (tableOf (kindIn (now (words .entry))) (now (words .entry))) number) ⌝ }
 {
-    let mut sets = [0u16; ipv4::SCRATCH];
-    let mut ends = [0u32; ipv4::SCRATCH];
-    let place = audit::find(
+    if ipv4::is_large(words) {
+        let mut sets = [0u16; ipv4::LARGE];
+        let mut ends = [0u32; ipv4::LARGE];
+        return audit::find(
+            words,
+            number,
+            &ipv4::TOPS,
+            ipv4::shape(true),
+            &mut sets,
+            &mut ends,
+        );
+    }
+    let mut sets = [0u16; ipv4::SMALL];
+    let mut ends = [0u32; ipv4::SMALL];
+    audit::find(
         words,
         number,
         &ipv4::TOPS,
-        ipv4::shape(),
+        ipv4::shape(false),
         &mut sets,
         &mut ends,
-    );
-    rule_found(words, place)
+    )
 }
 
-// Reads the rule at a place. Places are counted from 1, by rising number.
-pub fn rule_at(words: &[u32], place: u32) -> Reading
-    ensures { λ r. ⌜ (r .answer ≡ placeSays ipv4 (now (words .entry)) place) × (given (r .rule) ≡ placeGives ipv4 (now (words .entry)) place) ⌝ }
+// Reads the rule of a number; the default under 65,535.
+pub fn read(words: &[u32], number: u32) -> Reading
+    ensures { λ r. ⌜ (r .answer ≡ readSays (kindIn (now (words .entry))) (now (words .entry)) number) × (given (r .rule) ≡ readGives (kindIn (now (words .entry))) (now (words .entry)) number) ⌝ }
 {
-    let mut sets = [0u16; ipv4::SCRATCH];
-    let mut ends = [0u32; ipv4::SCRATCH];
-    let found = audit::find_at(
+    rule_found(words, find(words, number))
+}
+
+// Where the rule at a place stands. Places are counted from 1, by rising number.
+fn find_at(words: &[u32], place: u32) -> Place
+    ensures { λ r. ⌜ (r .answer ≡ placeSays (kindIn (now (words .entry))) (now (words .entry)) place) × (r .answer ≡ 0 → ruleIn 6 (rowsOf (kindIn (now (words .entry))) (now (words .entry))) (r .row) ≡ placeRule (kindIn (now (words .entry))) (tableOf (kindIn (now (words .entry))) (now (words .entry))) place) ⌝ }
+{
+    if ipv4::is_large(words) {
+        let mut sets = [0u16; ipv4::LARGE];
+        let mut ends = [0u32; ipv4::LARGE];
+        return audit::find_at(
+            words,
+            place,
+            &ipv4::TOPS,
+            ipv4::shape(true),
+            &mut sets,
+            &mut ends,
+        );
+    }
+    let mut sets = [0u16; ipv4::SMALL];
+    let mut ends = [0u32; ipv4::SMALL];
+    audit::find_at(
         words,
         place,
         &ipv4::TOPS,
-        ipv4::shape(),
+        ipv4::shape(false),
         &mut sets,
         &mut ends,
-    );
-    rule_found(words, found)
+    )
+}
+
+// Reads the rule at a place.
+pub fn rule_at(words: &[u32], place: u32) -> Reading
+    ensures { λ r. ⌜ (r .answer ≡ placeSays (kindIn (now (words .entry))) (now (words .entry)) place) × (given (r .rule) ≡ placeGives (kindIn (now (words .entry))) (now (words .entry)) place) ⌝ }
+{
+    rule_found(words, find_at(words, place))
 }
 
 // Counts the cells in use.
 pub fn cells(words: &[u32]) -> Count
-    ensures { λ r. ⌜ (r .answer ≡ cellsSays ipv4 (now (words .entry))) × (r .cells ≡ cellsGives ipv4 (now (words .entry))) ⌝ }
+    ensures { λ r. ⌜ (r .answer ≡ cellsSays (kindIn (now (words .entry))) (now (words .entry))) × (r .cells ≡ cellsGives (kindIn (now (words .entry))) (now (words .entry))) ⌝ }
 {
-    let mut sets = [0u16; ipv4::SCRATCH];
-    let mut ends = [0u32; ipv4::SCRATCH];
-    audit::cells(words, &ipv4::TOPS, ipv4::shape(), &mut sets, &mut ends)
+    if ipv4::is_large(words) {
+        let mut sets = [0u16; ipv4::LARGE];
+        let mut ends = [0u32; ipv4::LARGE];
+        return audit::cells(words, &ipv4::TOPS, ipv4::shape(true), &mut sets, &mut ends);
+    }
+    let mut sets = [0u16; ipv4::SMALL];
+    let mut ends = [0u32; ipv4::SMALL];
+    audit::cells(words, &ipv4::TOPS, ipv4::shape(false), &mut sets, &mut ends)
+}
+
+// Carries the table of a store of either kind into lent words, as a large store of c cells.
+pub fn carry(from: &[u32], words: &mut [u32], c: u32) -> u32
+    ensures { λ r. ⌜ (r ≡ carrySays (kindIn (now (from .entry))) large (now (from .entry)) (now (words .entry)) c) × (now (words .exit) ≡ carryWords (kindIn (now (from .entry))) large (now (from .entry)) (now (words .entry)) c) ⌝ }
+{
+    let old = ipv4::shape(ipv4::is_large(from));
+    let mut sets = [0u16; ipv4::LARGE];
+    let mut ends = [0u32; ipv4::LARGE];
+    carry::carry(
+        from,
+        words,
+        c,
+        &ipv4::TOPS,
+        old,
+        ipv4::shape(true),
+        &mut sets,
+        &mut ends,
+    )
 }

@@ -297,7 +297,7 @@ fn reach(at: usize, end: usize, start: usize, there: usize) -> usize
 }
 
 // Writes into out, from a place on to an end, the words of a slice from a start on; zeros where it has no more.
-fn copy(from: &[u32], start: usize, out: &mut [u32], at: usize, end: usize)
+pub fn copy(from: &[u32], start: usize, out: &mut [u32], at: usize, end: usize)
     requires { ⌜ (at ≤ end) × (end ≤ length (now out)) × (start ≤ 65536) ⌝ }
     ensures { λ _. ⌜ Copied (now (from .entry)) start (now (out .entry)) (now (out .exit)) at end ⌝ }
 {

@@ -1,5 +1,5 @@
 -- Tallies for each rule, request P1: what a lookup that counts answers, and what it leaves of the tally record that it was lent.
--- A record has 65 places, each with a key, a count of packets and a count of bytes. Its words may be any numbers.
+-- A record has 513 places, by P9, each with a key, a count of packets and a count of bytes. Its words may be any numbers.
 -- Assumes nothing: these are definitions.
 use mathlib.Core.Bool.{Bool, cond, _&&_}
 use mathlib.Core.List.{List, [], _∷_}
@@ -13,7 +13,7 @@ use Rattle.tally.specs.declared.Tallies.{Tallies}
 use Rattle.tally.specs.declared.Place.{Place}
 use Rattle.tally.specs.declared.Place.the-variants.{Held, New, Full}
 
--- WHERE A NUMBER COUNTS. "There are 65 places, each unused or keyed by a rule number": a rule's number is at most 65,535, the default's, and a key above that means unused
+-- WHERE A NUMBER COUNTS. "There are 65 places, each unused or keyed by a rule number", and by P9 "tallies have 513 places": a rule's number is at most 65,535, the default's, and a key above that means unused
 abbrev pub unused : ℕ → Bool
 unused key = ltb 65535 key
 
@@ -83,7 +83,7 @@ tallies key packets bytes = record { key = key; packets = packets; bytes = bytes
 
 -- A CLEAR RECORD: every place is unused, and every count is 0
 abbrev pub cleared : Tallies
-cleared = tallies (replicate 65 4294967295) (replicate 65 0) (replicate 65 0)
+cleared = tallies (replicate 513 4294967295) (replicate 513 0) (replicate 513 0)
 
 -- THE DIFFERENCE of two readings of a count, the later less the earlier, starting again at zero likewise
 unfoldable pub difference : ℕ → ℕ → ℕ

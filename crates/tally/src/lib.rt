@@ -8,12 +8,15 @@ ghost use Rattle.tally.specs.Tally.{unused, keyed, placeOf, addedAt, has
 use header::Header;
 use lookup::Found;
 
-// A tally record: 65 places, one for each rule of a full table and one for the default. A place is unused where its key is above 65,535, whatever it is; else it is the tally of the rule with that number. The words may hold any numbers.
+// The places of a tally record: one for each rule of a full table, and one for the default.
+pub const PLACES: usize = 513;
+
+// A tally record. Each place is unused where its key is above 65,535, whatever it is; else it is the tally of the rule with that number. The words may hold any numbers.
 #[repr(C)]
 pub struct Tallies {
-    pub key: [u32; 65],
-    pub packets: [u32; 65],
-    pub bytes: [u32; 65],
+    pub key: [u32; PLACES],
+    pub packets: [u32; PLACES],
+    pub bytes: [u32; PLACES],
 }
 
 // Where a rule's number counts: at the first place that holds it, at the first unused place, which it takes, or nowhere.
@@ -66,8 +69,8 @@ fn place_of(key: &[u32], number: u32) -> Place
 }
 
 // Adds to one of the counts, which starts again at zero after 4,294,967,295.
-fn add(counts: &mut [u32; 65], place: usize, n: u32)
-    requires { ⌜ place < 65 ⌝ }
+fn add(counts: &mut [u32; PLACES], place: usize, n: u32)
+    requires { ⌜ place < 513 ⌝ }
     ensures { λ _. ⌜ now (counts .exit) ≡ addedAt place n (now (counts .entry)) ⌝ }
 {
     counts[place] = std::num::wrapping_add_u32(counts[place], n);
@@ -75,9 +78,9 @@ fn add(counts: &mut [u32; 65], place: usize, n: u32)
 
 // Counts a packet of so many bytes for a rule's number, with the record in three arrays. It says whether the number has a place; where it has none, nothing is changed.
 fn count(
-    key: &mut [u32; 65],
-    packets: &mut [u32; 65],
-    bytes: &mut [u32; 65],
+    key: &mut [u32; PLACES],
+    packets: &mut [u32; PLACES],
+    bytes: &mut [u32; PLACES],
     number: u32,
     length: u32,
 ) -> bool
@@ -105,9 +108,9 @@ fn count(
 pub fn count_found(
     found: Found,
     packet: &[u8],
-    key: &mut [u32; 65],
-    packets: &mut [u32; 65],
-    bytes: &mut [u32; 65],
+    key: &mut [u32; PLACES],
+    packets: &mut [u32; PLACES],
+    bytes: &mut [u32; PLACES],
 ) -> Found
     requires { ⌜ (found .answer ≡ 0 → 20 ≤ length (now packet)) ⌝ }
     ensures { λ r. ⌜ (r ≡ foundTally found (tallies (now (key .entry)) (now (packets .entry)) (now (bytes .entry)))) × (tallies (now (key .exit)) (now (packets .exit)) (now (bytes .exit)) ≡ foundTallies found (now (packet .entry)) (tallies (now (key .entry)) (now (packets .entry)) (now (bytes .entry)))) ⌝ }
@@ -126,9 +129,9 @@ pub fn count_found(
 pub fn lookup_packet(
     words: &[u32],
     packet: &[u8],
-    key: &mut [u32; 65],
-    packets: &mut [u32; 65],
-    bytes: &mut [u32; 65],
+    key: &mut [u32; PLACES],
+    packets: &mut [u32; PLACES],
+    bytes: &mut [u32; PLACES],
 ) -> Found
     ensures { λ r. ⌜ (r ≡ tallyAnswer (now (words .entry)) (now (packet .entry)) (tallies (now (key .entry)) (now (packets .entry)) (now (bytes .entry)))) × (tallies (now (key .exit)) (now (packets .exit)) (now (bytes .exit)) ≡ talliesLeft (now (words .entry)) (now (packet .entry)) (tallies (now (key .entry)) (now (packets .entry)) (now (bytes .entry)))) ⌝ }
 {
@@ -149,12 +152,12 @@ pub fn lookup_packet(
 }
 
 // Clears a record in three arrays: every place is unused, and every count is 0.
-pub fn clear(key: &mut [u32; 65], packets: &mut [u32; 65], bytes: &mut [u32; 65])
+pub fn clear(key: &mut [u32; PLACES], packets: &mut [u32; PLACES], bytes: &mut [u32; PLACES])
     ensures { λ _. ⌜ tallies (now (key .exit)) (now (packets .exit)) (now (bytes .exit)) ≡ cleared ⌝ }
 {
-    *key = [4294967295; 65];
-    *packets = [0; 65];
-    *bytes = [0; 65];
+    *key = [4294967295; PLACES];
+    *packets = [0; PLACES];
+    *bytes = [0; PLACES];
 }
 
 // What was added to a count between two readings of it, if that was less than 4,294,967,296 and the tally was not dropped in between.

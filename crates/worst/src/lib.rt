@@ -3,7 +3,7 @@ ghost use mathlib.Core.Path.{_≡_};
 ghost use Prim.Native.Nat.{suc};
 ghost use lib.ListN.{length};
 ghost use Rattle.model.specs.Table.{Shaped};
-ghost use Rattle.model.specs.Ipv4.{ipv4};
+ghost use Rattle.model.specs.Ipv4.{kindIn};
 ghost use Rattle.rows.specs.Rows.{Scratch};
 ghost use Rattle.table.specs.Rows.{kindOf};
 ghost use Rattle.worst.specs.Worst.{made, mostOf, worstSays};
@@ -51,21 +51,41 @@ pub fn worst_in(
     }
 }
 
-// The most reads that any record of values takes, and the least record that takes them.
-pub fn worst(words: &[u32]) -> Most
-    ensures { λ r. ⌜ r ≡ worstSays ipv4 (now (words .entry)) ⌝ }
+// The same for the kind that word 2 names.
+fn reads(words: &[u32], out: &mut [u32]) -> Count
+    requires { ⌜ length (now out) ≡ 6 ⌝ }
+    ensures { λ r. ⌜ made (r .answer) (r .reads) (now (out .exit)) ≡ mostOf (kindIn (now (words .entry))) (now (words .entry)) (now (out .entry)) ⌝ }
 {
-    let mut sets = [0u16; ipv4::SCRATCH];
-    let mut ends = [0u32; ipv4::SCRATCH];
-    let mut value = [0u32; 6];
-    let count = worst_in(
+    if ipv4::is_large(words) {
+        let mut sets = [0u16; ipv4::LARGE];
+        let mut ends = [0u32; ipv4::LARGE];
+        return worst_in(
+            words,
+            &ipv4::TOPS,
+            ipv4::shape(true),
+            &mut sets,
+            &mut ends,
+            out,
+        );
+    }
+    let mut sets = [0u16; ipv4::SMALL];
+    let mut ends = [0u32; ipv4::SMALL];
+    worst_in(
         words,
         &ipv4::TOPS,
-        ipv4::shape(),
+        ipv4::shape(false),
         &mut sets,
         &mut ends,
-        &mut value,
-    );
+        out,
+    )
+}
+
+// The most reads that any record of values takes, and the least record that takes them.
+pub fn worst(words: &[u32]) -> Most
+    ensures { λ r. ⌜ r ≡ worstSays (kindIn (now (words .entry))) (now (words .entry)) ⌝ }
+{
+    let mut value = [0u32; 6];
+    let count = reads(words, &mut value);
     Most {
         answer: count.answer,
         reads: count.reads,

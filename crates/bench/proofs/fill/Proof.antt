@@ -2,8 +2,7 @@
 -- Assumes nothing.
 use mathlib.Core.Path.{ap₂, _∙_}
 use borrow.Author.Needs.{needs}
-use Rattle.model.specs.Ipv4.{ipv4}
-use Rattle.layout.specs.Store.{insertWords}
+use Rattle.bench.specs.Store.{inserted}
 use Rattle.bench.proofs.fill.Statement.{statement}
 use Rattle.bench.proofs.fill.Tie as tie
 
@@ -21,6 +20,6 @@ fill-spec =
     let b = c .before .before in
     let a = b .before .before .before .before .before in
     b .insert2 .ensures .1
-    ∙ ap₂ (insertWords ipv4)
-    (a .insert .ensures .1 ∙ ap₂ (insertWords ipv4) (a .before .before .before .before .before .start .ensures .1) (a .before .rule-10 .ensures))
+    ∙ ap₂ inserted
+    (a .insert .ensures .1 ∙ ap₂ inserted (a .before .before .before .before .before .start .ensures .1) (a .before .rule-10 .ensures))
     (b .before .rule-20 .ensures)))

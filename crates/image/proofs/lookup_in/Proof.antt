@@ -16,20 +16,26 @@ lookup-in-spec =
     tie.close
     (tie.spec
     (λ c κs. search needs)
+    -- there is no word 2
+    (λ c.
+    let s = c .before .before .before .before .before in
+    let a = s .args in
+    c .refuse .ensures ∙ few-words (kindOf (a .tops .now) (a .shape)) (a .image .now) (a .values .now) (omega (arith, s .pre .0 .three, c .before .if1 .taken)))
+    (λ c. search needs)
+    (λ c κs. search needs)
+    -- another kind
+    (λ c.
+    let a = c .before .before .before .before .before .before .before .before .args in
+    c .refuse2 .ensures ∙ no-kind (kindOf (a .tops .now) (a .shape)) (a .image .now) (a .values .now) (search needs))
+    (λ c κs. search needs)
     (λ c. search needs)
     (λ c. search needs)
     (λ c κs. search needs)
     -- too few words
     (λ c.
     let r = c .before .before in
-    let a = r .before .before .before .before .args in
-    c .refuse .ensures ∙ few-words (kindOf (a .tops .now) (a .shape)) (a .image .now) (a .values .now) (omega (arith, r .rows-end .ensures .0, c .before .if1 .taken)))
-    (λ c. search needs)
-    (λ c κs. search needs)
-    -- another kind
-    (λ c.
-    let a = c .before .before .before .before .before .before .before .before .before .args in
-    c .refuse2 .ensures ∙ no-kind (kindOf (a .tops .now) (a .shape)) (a .image .now) (a .values .now) (search needs))
+    let a = r .before .before .before .before .before .before .before .before .args in
+    c .refuse3 .ensures ∙ few-words (kindOf (a .tops .now) (a .shape)) (a .image .now) (a .values .now) (omega (arith, r .rows-end .ensures .0, c .before .if3 .taken)))
     (λ c. search needs)
     (λ c. search needs)
     (λ c. search needs)
@@ -39,10 +45,9 @@ lookup-in-spec =
     -- what the walk says
     (λ c.
     let w = c .before in
-    let e = w .before .before in
-    let l = e .before .before .before in
+    let l = w .before .before in
     let r = l .before in
-    let a = r .before .before .before .before .args in
+    let a = r .before .before .before .before .before .before .before .before .args in
     let k = kindOf (a .tops .now) (a .shape) in
     let f : r .rows-end .result + 2 ≡ front k = omega (arith, r .rows-end .ensures .0) in
-    c .found-in .ensures ∙ ap (foundIn k (a .image .now)) (w .walk .ensures) ∙ walked-there k (a .image .now) (a .values .now) (search needs) _ f (l .if1 .left)))
+    c .found-in .ensures ∙ ap (foundIn k (a .image .now)) (w .walk .ensures) ∙ walked-there k (a .image .now) (a .values .now) (search needs) _ f (l .if3 .left)))

@@ -3,7 +3,8 @@
 use borrow.Author.Needs.{needs}
 use mathlib.Core.Path.{_≡_, refl, subst}
 use Rattle.model.specs.Table.{Kind}
-use Rattle.ipv4.proofs.Chosen.{shaped, scratch}
+use mathlib.Core.Bool.{true}
+use Rattle.ipv4.proofs.Chosen.{lent}
 use Rattle.layout.specs.Store.{startAnswer, startWords}
 use Rattle.store.proofs.start.Statement.{statement}
 use Rattle.store.proofs.start.Tie as tie
@@ -18,8 +19,7 @@ start-spec =
     (λ c. search needs)
     -- start-requires
     (λ c κs.
-    let h = c .before .before in
-    (shaped _ (h .shape .ensures), scratch _ (h .shape .ensures) _ _ refl refl))
+    lent true _ (c .before .before .shape .ensures) _ _ refl refl)
     (λ c. search needs)
     -- returns
     (λ c.
