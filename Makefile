@@ -18,7 +18,7 @@ else
 $(error MACHINE is '$(MACHINE)': there are archives for x86_64 and for aarch64)
 endif
 
-.PHONY: help run lib install uninstall example test soak bench-speed bench-before bench-growth bench-peers bench-stack bench-place bench-cells mutants must-fail edits-list clean kit tools capture
+.PHONY: help run keep lib install uninstall example test soak bench-speed bench-before bench-growth bench-peers bench-stack bench-place bench-cells mutants must-fail edits-list clean kit tools capture
 # Two provers over one target/ would be in each other's way.
 .NOTPARALLEL:
 .DELETE_ON_ERROR:
@@ -35,6 +35,7 @@ install uninstall: export DESTDIR := $(DESTDIR)
 
 help:
 	@echo 'make run [CAPTURE=file.pcap]   prove, build and run the bench program on a capture'
+	@echo 'make keep                      prove and build the program keep: target/bin/keep ACTION <in.pcap >out.pcap'
 	@echo 'make lib [MACHINE=aarch64]     prove and build the library for C: $(ARCHIVE)'
 	@echo 'make install [PREFIX=/usr/local] [LIBDIR=..] [INCLUDEDIR=..] [DOCDIR=..] [DESTDIR=..] [MACHINE=aarch64]'
 	@echo '                               install what make lib built; make uninstall removes it'
@@ -70,6 +71,12 @@ $(ARM): $(X86) scripts/archive-for
 
 target/bin/bench: crates.txt $(call files,bench)
 	@scripts/prove check bench && touch $@
+
+target/bin/keep: crates.txt $(call files,keep)
+	@scripts/prove check keep && touch $@
+
+keep: target/bin/keep
+	@echo 'the program that keeps the records of one action: target/bin/keep'
 
 lib: $(ARCHIVE)
 	@echo 'the library for $(MACHINE): $(ARCHIVE), its header: include/reamstork.h'

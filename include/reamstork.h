@@ -51,8 +51,9 @@
  *    where it is the only one, and `from` to at least `from_len` words;
  *    `packet` points to at least `packet_len` bytes; `low` and `high` point
  *    to six words each; `tallies` points to a reamstork_tallies; `records`
- *    points to at least `count` of reamstork_record.  No pointer is null,
- *    not even with a length or count of 0.
+ *    points to at least `count` of reamstork_record; `out` points to at
+ *    least `len` bytes and `data` to at least `data_len` bytes.  No pointer
+ *    is null, not even with a length or count of 0.
  *  - A call that writes its words (start, start_with, carry, insert,
  *    delete) has them to itself while it runs: no other thread, interrupt
  *    or device reads or writes them, and neither `low` and `high` nor any
@@ -60,6 +61,8 @@
  *    freeze has its image to itself in the same way, and it does not
  *    overlap the words.  A call that is lent tallies has these to itself
  *    too, and they lie neither within its words nor within its packet.
+ *    A call that writes a capture has its bytes to itself as well, and they
+ *    do not overlap the data, which nobody writes meanwhile.
  *  - While a call that only reads its words runs, nobody writes them, its
  *    packet or its records, and the words and the packet do not overlap.
  *    The words of an image are meant as well, and `from`, which carry only
@@ -222,9 +225,9 @@ extern "C" {
  * may be no store of this one: run reamstork_check before the first lookup
  * in them.
  */
-#define REAMSTORK_VERSION          "5.0"
+#define REAMSTORK_VERSION          "5.1"
 #define REAMSTORK_VERSION_MAJOR    5
-#define REAMSTORK_VERSION_MINOR    0
+#define REAMSTORK_VERSION_MINOR    1
 
 /*
  * LIMITS
@@ -239,6 +242,9 @@ extern "C" {
 #define REAMSTORK_CELLS_MAX        65536        /* greatest c                */
 #define REAMSTORK_PLACES           513          /* slots of a tally record, not places of rules */
 #define REAMSTORK_UNUSED           4294967295u  /* key of an unused slot     */
+#define REAMSTORK_CAPTURE_HEADER   24           /* bytes in front of the records of a capture */
+#define REAMSTORK_RECORD_HEADER    16           /* bytes in front of the data of a record     */
+#define REAMSTORK_RECORD_MOST      16384        /* bytes of data of a record, at most         */
 
 /* Where a field stands in the arrays low and high of a rule. */
 #define REAMSTORK_DESTINATION      0            /* field 1 */
@@ -290,11 +296,11 @@ extern "C" {
 #define REAMSTORK_TABLE_FULL       5   /* table full */
 #define REAMSTORK_NO_ROOM          6   /* too few cells for the new tree */
 #define REAMSTORK_UNREADABLE       7   /* packet not readable */
-#define REAMSTORK_BAD_SIZE         8   /* number of cells outside its limits, or too few words */
+#define REAMSTORK_BAD_SIZE         8   /* number of cells outside its limits, or too few words or bytes */
 #define REAMSTORK_BAD_STORE        9   /* store or image fails the check */
 #define REAMSTORK_BAD_PREFIX       10  /* prefix too long, or address not a multiple of its size */
 #define REAMSTORK_BAD_VALUE        11  /* value above its top */
-/* 12 is the bench program's alone:      capture not accepted */
+#define REAMSTORK_TOO_LONG         12  /* capture not accepted, or record too long for one */
 #define REAMSTORK_NO_PLACE         13  /* no slot left in the tally record */
 #define REAMSTORK_CUT              14  /* packet cut short: fewer bytes than its total length */
 
@@ -308,6 +314,7 @@ typedef struct { uint32_t key[513], packets[513], bytes[513]; } reamstork_tallie
 typedef struct { uint32_t number, action, low[6], high[6]; } reamstork_record;
 typedef struct { uint32_t answer, rule, action; } reamstork_winner;
 typedef struct { uint32_t answer, words; } reamstork_size;
+typedef struct { uint32_t answer, bytes; } reamstork_written;
 
 /*
  * AN ANSWER AS A TEXT
@@ -326,11 +333,11 @@ static inline const char *reamstork_answer(uint32_t answer)
 	case REAMSTORK_TABLE_FULL: return "table full";
 	case REAMSTORK_NO_ROOM: return "too few cells for the new tree";
 	case REAMSTORK_UNREADABLE: return "packet not readable";
-	case REAMSTORK_BAD_SIZE: return "number of cells outside its limits, or too few words";
+	case REAMSTORK_BAD_SIZE: return "number of cells outside its limits, or too few words or bytes";
 	case REAMSTORK_BAD_STORE: return "store or image fails the check";
 	case REAMSTORK_BAD_PREFIX: return "prefix too long, or address not a multiple of its size";
 	case REAMSTORK_BAD_VALUE: return "value above its top";
-	case 12: return "capture not accepted";
+	case REAMSTORK_TOO_LONG: return "capture not accepted, or record too long for one";
 	case REAMSTORK_NO_PLACE: return "no slot left in the tally record";
 	case REAMSTORK_CUT: return "packet cut short: fewer bytes than its total length";
 	default: return "unknown answer";
@@ -968,6 +975,86 @@ reamstork_winner reamstork_scan(const reamstork_record *records, size_t count, u
  * 24 gives 10; 0.0.0.0 of length 0 gives the full range.
  */
 reamstork_range reamstork_prefix(uint32_t address, uint32_t length);
+
+/*
+ * BEGIN A CAPTURE
+ *
+ * A capture is a file that tcpdump and Wireshark read, of the classic
+ * layout: a header, and behind it a record for each packet.  These two calls
+ * write one into bytes that the caller lends, header and record by a call
+ * each.  What becomes of the bytes is the caller's: they may go to a file or
+ * over a line as soon as a call has answered.
+ *
+ *   8  len is below REAMSTORK_CAPTURE_HEADER
+ *   0  done: bytes is REAMSTORK_CAPTURE_HEADER, 24
+ *
+ * Done: the first 24 bytes of out are the header, whatever they held, and
+ * every byte behind them is as before.  Refused: all bytes are as before, and
+ * none is written.
+ *
+ * The header is the same each time.  Its numbers stand least significant
+ * byte first, on every machine:
+ *
+ *     bytes     what                         value
+ *     0 to 3    D4 C3 B2 A1, which says so
+ *     4 to 7    version, two of 16 bits      2 and 4
+ *     8 to 15   two numbers                  0 and 0
+ *     16 to 19  snapshot length              16,384
+ *     20 to 23  link type                    101: packets begin at the IP header
+ */
+reamstork_written reamstork_capture_begin(uint8_t *out, size_t len);
+
+/*
+ * ADD A RECORD TO A CAPTURE
+ *
+ * `data` is the packet from its IPv4 header on, or the first bytes of it that
+ * were kept.  `original` is the length that it had before it was cut, and
+ * data_len where it is whole.  `seconds` and `fraction`, in millionths, are
+ * the time of its arrival.  These are numbers of the caller's, and any are
+ * taken: they are written as they are.
+ *
+ *  12  data_len is above REAMSTORK_RECORD_MOST, 16,384
+ *   8  len is below REAMSTORK_RECORD_HEADER + data_len
+ *   0  done: bytes is REAMSTORK_RECORD_HEADER + data_len, 16 and the data
+ *
+ * in this order.  Done: the first `bytes` bytes of out are the record, and
+ * every byte behind them is as before: seconds, fraction, data_len and
+ * original, in 4 bytes each, least significant byte first, and then the
+ * data.  Refused: all bytes of out are as before, and none is written.
+ * Changes no byte of data.
+ *
+ * out is where this record begins, not where the capture does: move on by
+ * bytes after each call.  No call asks whether a header stands in front.
+ *
+ * One header and then records, each behind the one before, are a capture
+ * that the bench program and every other reader of this layout take.  Read
+ * back it has exactly these records, with these numbers and these bytes, in
+ * this order, and ends behind the last one.  So a capture may be ended after
+ * any record: nothing has to be written at its end.
+ *
+ * A gateway keeps the packets of one action, for whoever is to look at them
+ * later.  Of room bytes at file, used are in use; a packet that is refused by
+ * the lookup has no action and is left out:
+ *
+ *     reamstork_written w = reamstork_capture_begin(file, room);
+ *     size_t used = w.bytes;
+ *
+ *     while (w.answer == REAMSTORK_DONE && next_frame(&frame)) {
+ *         reamstork_found f = reamstork_lookup_packet(words, len, frame.data, frame.n);
+ *         if (f.answer != REAMSTORK_DONE || f.action != wanted)
+ *             continue;
+ *         w = reamstork_capture_add(file + used, room - used, frame.seconds,
+ *                                   frame.millionths, frame.n, frame.data, frame.n);
+ *         used += w.bytes;
+ *     }
+ *
+ * What ended the loop is w.answer: 0 where there are no more frames, 8 where
+ * the room is full, 12 where a frame is longer than a record can be.  In each
+ * case the first used bytes are a whole capture, and with 0 bytes for a
+ * refusal used stays right.  Who would rather go on after 12 may add the
+ * first 16,384 bytes of such a frame, with its own length for original.
+ */
+reamstork_written reamstork_capture_add(uint8_t *out, size_t len, uint32_t seconds, uint32_t fraction, uint32_t original, const uint8_t *data, size_t data_len);
 
 #ifdef __cplusplus
 }

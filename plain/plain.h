@@ -31,6 +31,8 @@ reamstork_found plain_lookup_packet_tally(const uint32_t *words, size_t len, con
 uint32_t plain_tally_difference(uint32_t earlier, uint32_t later);
 reamstork_winner plain_scan(const reamstork_record *records, size_t count, uint32_t default_action, uint32_t destination, uint32_t source, uint32_t protocol, uint32_t destination_port, uint32_t source_port, uint32_t portless);
 reamstork_range plain_prefix(uint32_t address, uint32_t length);
+reamstork_written plain_capture_begin(uint8_t *out, size_t len);
+reamstork_written plain_capture_add(uint8_t *out, size_t len, uint32_t seconds, uint32_t fraction, uint32_t original, const uint8_t *data, size_t data_len);
 reamstork_size plain_image_words(const uint32_t *words, size_t len);
 uint32_t plain_freeze(const uint32_t *words, size_t len, uint32_t *image, size_t image_len);
 uint32_t plain_image_check(const uint32_t *image, size_t len);

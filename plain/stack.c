@@ -199,6 +199,20 @@ static void prefix(void)
 	answer |= reamstork_prefix(0x0a000000, 24).answer;
 }
 
+static uint8_t capture[REAMSTORK_RECORD_HEADER + REAMSTORK_RECORD_MOST];
+
+static void capture_begin(void)
+{
+	answer |= reamstork_capture_begin(capture, sizeof capture).answer;
+}
+
+static void capture_add(void)
+{
+	static uint8_t data[REAMSTORK_RECORD_MOST];
+
+	answer |= reamstork_capture_add(capture, sizeof capture, 1, 2, 3, data, sizeof data).answer;
+}
+
 /* The greater use of one call and the other, which undoes it. */
 static void in_turn(size_t *a, size_t *b, void (*f)(void), void (*g)(void))
 {
@@ -262,6 +276,8 @@ static void all(int small, uint32_t n, uint32_t budget)
 	say("reamstork_tallies_clear", used(tallies_clear));
 	say("reamstork_scan", used(scan));
 	say("reamstork_prefix", used(prefix));
+	say("reamstork_capture_begin", used(capture_begin));
+	say("reamstork_capture_add", used(capture_add));
 	printf("  %-36s %8zu bytes\n\n", "the most of these", most);
 }
 

@@ -11,10 +11,10 @@ import tempfile
 from array import array
 from pathlib import Path
 
-from loads import (BASE, CARRY, CELLS, CHECK, CLEAR, DEAD, DELETE, DIFFERENCE, FILL, FREEZE, GET,
-                   IMAGE_CHECK, IMAGE_LOOKUP, IMAGE_PACKET, IMAGE_TALLY, IMAGE_WORDS, IMAGE_WORST,
-                   INSERT, LOOKUP, LOOKUP_PACKET, LOOKUP_TALLY, PREFIX, READ, RULE_AT, SCAN, START,
-                   START_WITH, WORST, Call)
+from loads import (BASE, CAPTURE_ADD, CAPTURE_BEGIN, CARRY, CELLS, CHECK, CLEAR, DEAD, DELETE,
+                   DIFFERENCE, FILL, FREEZE, GET, IMAGE_CHECK, IMAGE_LOOKUP, IMAGE_PACKET,
+                   IMAGE_TALLY, IMAGE_WORDS, IMAGE_WORST, INSERT, LOOKUP, LOOKUP_PACKET,
+                   LOOKUP_TALLY, PREFIX, READ, RULE_AT, SCAN, START, START_WITH, WORST, Call)
 from reference import PLACES
 
 ROOT = Path(__file__).resolve().parent.parent
@@ -26,7 +26,8 @@ GIVEN = {START: 1, START_WITH: 1, CARRY: 1, INSERT: 1, DELETE: 1, CHECK: 1, READ
          RULE_AT: 15, DEAD: 8, WORST: 8, CELLS: 2, LOOKUP: 4,
          LOOKUP_PACKET: 4, LOOKUP_TALLY: 4 + 3 * PLACES, SCAN: 3, PREFIX: 3, CLEAR: 0,
          DIFFERENCE: 1, IMAGE_WORDS: 2, FREEZE: 1, IMAGE_CHECK: 1, IMAGE_LOOKUP: 4,
-         IMAGE_PACKET: 4, IMAGE_TALLY: 4 + 3 * PLACES, IMAGE_WORST: 8}
+         IMAGE_PACKET: 4, IMAGE_TALLY: 4 + 3 * PLACES, IMAGE_WORST: 8, CAPTURE_BEGIN: 2,
+         CAPTURE_ADD: 2}
 # else valgrind leaves out a load whose value is not used, and on Arm no atomic store succeeds
 EVERY = ('--vex-iropt-level=0', *['--sim-hints=fallback-llsc'] * ARM)
 # the C library copies by instructions that a trace has one line for, not one for each byte
@@ -81,6 +82,16 @@ class Script:
         self.input.extend([CARRY, room, c])
         self.calls.append(Call(CARRY, (room, c), self.words, self.len, b'', (), 0))
         self.given += GIVEN[CARRY]
+
+    def capture_begin(self, length, shift):
+        """Into that many bytes, as many bytes behind an address that is aligned."""
+        self.call(CAPTURE_BEGIN, length, shift)
+
+    def capture_add(self, length, shift, numbers, data, data_shift):
+        """The last of the call's numbers is where the data begins."""
+        padded = array('I', bytes(data_shift) + data + bytes(-(data_shift + len(data)) % 4))
+        self.call(CAPTURE_ADD, length, shift, *numbers, len(data), data_shift, lent=padded,
+                  packet=data)
 
     def scan(self, rules, values):
         records = [x for rule in rules for x in (rule.number, rule.action, *rule.low, *rule.high)]

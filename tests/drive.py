@@ -20,6 +20,7 @@ RESET, MAKE, LEND, SET, GET, DIGEST, SAME, COPY, HOLDS = range(9)
 TALLY, CLEAR, DIFFERENCE, RECORDS = range(32, 36)
 (IMAGE_WORDS, FREEZE, IMAGE_CHECK, IMAGE_LOOKUP, IMAGE_PACKET, IMAGE_TALLY,
  IMAGE_WORST) = range(40, 47)
+CAPTURE_BEGIN, CAPTURE_ADD, CAPTURE_FAR = range(48, 51)
 RECORD = 3 * PLACES
 NAMES = {RESET: 'reset', MAKE: 'make', LEND: 'lend', SET: 'set', GET: 'get', DIGEST: 'digest',
          SAME: 'same', COPY: 'copy', HOLDS: 'holds', CARRY: 'carry', START: 'start',
@@ -30,12 +31,14 @@ NAMES = {RESET: 'reset', MAKE: 'make', LEND: 'lend', SET: 'set', GET: 'get', DIG
          CLEAR: 'tallies_clear', DIFFERENCE: 'tally_difference', RECORDS: 'scan of records',
          IMAGE_WORDS: 'image_words', FREEZE: 'freeze', IMAGE_CHECK: 'image_check',
          IMAGE_LOOKUP: 'image_lookup', IMAGE_PACKET: 'image_lookup_packet',
-         IMAGE_TALLY: 'image_lookup_packet_tally', IMAGE_WORST: 'image_worst'}
+         IMAGE_TALLY: 'image_lookup_packet_tally', IMAGE_WORST: 'image_worst',
+         CAPTURE_BEGIN: 'capture_begin', CAPTURE_ADD: 'capture_add',
+         CAPTURE_FAR: 'capture_begin and capture_add above 2^32 bytes'}
 SIZES = {RESET: 0, MAKE: 0, LEND: 0, SET: 0, DIGEST: 2, SAME: 1, COPY: 0, HOLDS: 0, CARRY: 1,
          START: 1, START_WITH: 1, INSERT: 1, DELETE: 1, CHECK: 1, READ: 15, CELLS: 2, LOOKUP: 4,
          PACKET: 4, PREFIX: 3, SCAN: 66, RULE_AT: 15, DEAD: 8, WORST: 8, TALLY: 4 + RECORD,
          CLEAR: RECORD, DIFFERENCE: 1, RECORDS: 3, IMAGE_WORDS: 2, FREEZE: 1, IMAGE_CHECK: 1,
-         IMAGE_LOOKUP: 4, IMAGE_PACKET: 4, IMAGE_TALLY: 4 + RECORD, IMAGE_WORST: 8}
+         IMAGE_LOOKUP: 4, IMAGE_PACKET: 4, IMAGE_TALLY: 4 + RECORD, IMAGE_WORST: 8, CAPTURE_FAR: 6}
 EDITS = (MAKE, LEND, SET, COPY, HOLDS, CARRY, START, START_WITH, INSERT, DELETE, FREEZE)
 INTO_ANOTHER = (COPY, FREEZE, CARRY)  # these write the second of two stores
 GUARDED, END_AT_WALL, FRONT_AT_WALL = range(3)
@@ -49,7 +52,12 @@ FAULTS = {1: 'a guard word in front of the store was written',
           6: 'the bytes of a packet were changed',
           7: 'the ends of a rule were changed',
           8: 'a guard word in front of a tally record was written',
-          9: 'the records of a list were changed'}
+          9: 'the records of a list were changed',
+          10: 'a byte outside the lent output was written',
+          11: 'a refused call wrote a byte of the output',
+          12: 'a byte behind those that were written was changed',
+          13: 'the data of a record was changed',
+          14: 'more bytes were written than were lent'}
 
 HEAD = struct.Struct('<7I')
 PACKERS = {n: struct.Struct('<%dI' % n) for n in [*range(1, 68), RECORD, 4 + RECORD]}
@@ -260,6 +268,24 @@ class Talk:
         self.queue_command(RECORDS, (action,) + tuple(values) + (len(records),), want,
                            tail=words.tobytes())
 
+    def capture_begin(self, length, want=None, behind=0, fill=1):
+        """Into so many bytes, which end at the wall or have so many guard bytes behind them.
+        `want` is the answer and the bytes that are written; a question gives all bytes."""
+        size = length if want is None else len(want[1])
+        self.queue_command(CAPTURE_BEGIN, (length, behind, fill or 1, size), shown(want),
+                           size=2 + (size + 3) // 4)
+
+    def capture_add(self, length, numbers, data, want=None, behind=0, fill=1):
+        """`numbers` are the seconds, the fraction and the original length."""
+        size = length if want is None else len(want[1])
+        self.queue_command(CAPTURE_ADD, (length, behind, fill or 1, size) + tuple(numbers)
+                           + (len(data),), shown(want), size=2 + (size + 3) // 4,
+                           tail=data + bytes(-len(data) % 4))
+
+    def capture_far(self, more, size):
+        """A question: what is answered where the lengths are 2^32 bytes and so many more."""
+        self.queue_command(CAPTURE_FAR, (more, size))
+
     # -- sending --
 
     def flush(self):
@@ -284,6 +310,8 @@ class Talk:
                 continue
             got = PACKERS[size].unpack_from(results, at) if size in PACKERS else array(
                 'I', results[at:at + 4 * size])
+            if op in (CAPTURE_BEGIN, CAPTURE_ADD):
+                got = tuple(got)
             at += 4 * size
             if (START <= op <= PREFIX or op in (RULE_AT, DEAD, WORST, CARRY, TALLY, RECORDS)
                     or op >= IMAGE_WORDS):
@@ -316,8 +344,19 @@ class Talk:
         raise Disagreement('\n'.join(lines + ['  ' + spell(*entry[:3]) for entry in before[-200:]]))
 
 
+def shown(want):
+    """What the driver gives for a call that writes a capture: the answer, how many bytes are
+    written, and these in words."""
+    if want is None:
+        return None
+    answer, written = want
+    return (answer, len(written), *array('I', written + bytes(-len(written) % 4)))
+
+
 def spell(op, numbers, tail):
     text = '%s(%s)' % (NAMES[op], ', '.join(map(str, numbers)))
+    if op == CAPTURE_ADD:
+        return text + ' data ' + tail[:numbers[7]][:80].hex()
     if tail and op in (PACKET, IMAGE_PACKET):
         text += ' bytes ' + tail[:numbers[1]][:80].hex()
     elif op in (TALLY, IMAGE_TALLY):

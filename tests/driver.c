@@ -21,6 +21,10 @@
    front or at its end, and a packet, a list of records and a tally record
    always end against such memory, so that a read outside them ends the
    program. In front of a tally record stand guard words.
+   The bytes that a capture is written into end against such memory, or have
+   guard bytes behind them, and have guard bytes in front. Every one of them is
+   seen to after a refused call, and after another one those behind the bytes
+   that it says it wrote.
 
    A batch is one number, its length in words, and then that many words. All
    numbers are 32 bits, least significant byte first. The answer to a batch is
@@ -38,7 +42,7 @@
 
 #include "reamstork.h"
 
-enum { STORES = 64, GUARD = 256, BLOCK = 65536, MOST_WORDS = 1 << 21 };
+enum { STORES = 64, GUARD = 256, BLOCK = 65536, MOST_WORDS = 1 << 21, OUTPUT = 40000 };
 
 /* Stores longer than this are compared once in a batch and around each edit,
    not after each call that may not write. */
@@ -51,7 +55,8 @@ enum {
   WORST = 29, CARRY = 30,
   TALLY = 32, CLEAR = 33, DIFFERENCE = 34, RECORDS = 35,
   IMAGE_WORDS = 40, FREEZE = 41, IMAGE_CHECK = 42, IMAGE_LOOKUP = 43, IMAGE_PACKET = 44,
-  IMAGE_TALLY = 45, IMAGE_WORST = 46
+  IMAGE_TALLY = 45, IMAGE_WORST = 46,
+  CAPTURE_BEGIN = 48, CAPTURE_ADD = 49, CAPTURE_FAR = 50
 };
 
 /* How a store lies in memory. */
@@ -61,7 +66,8 @@ enum { GUARDED = 0, END_AT_WALL = 1, FRONT_AT_WALL = 2 };
 enum {
   GUARD_IN_FRONT = 1, GUARD_BEHIND = 2, READER_WROTE = 3, REFUSED_EDIT_WROTE = 4,
   WROTE_BEHIND = 5, PACKET_WRITTEN = 6, ENDS_WRITTEN = 7, GUARD_OF_RECORD = 8,
-  RECORDS_WRITTEN = 9
+  RECORDS_WRITTEN = 9, GUARD_OF_OUTPUT = 10, REFUSED_WROTE = 11, OUTPUT_BEHIND = 12, DATA_WRITTEN = 13,
+  MORE_THAN_LENT = 14
 };
 
 struct store {
@@ -77,7 +83,7 @@ static struct store stores[STORES];
 static uint32_t *batch, *results;
 static size_t batch_room, results_room, at, batch_size, given;
 static uint32_t calls, faults, fault_command, fault_kind, fault_store, fault_position, command;
-static uint8_t *packet_end;
+static uint8_t *packet_end, *output_end, *output_copy;
 static reamstork_tallies *record;
 
 static void stop(const char *why) {
@@ -467,6 +473,80 @@ static void call_records(void) {
   calls++;
 }
 
+/* ---- captures ---- */
+
+/* So many bytes, full of a pattern, to write into: they end at the wall, or so many guard bytes in
+   front of it. */
+static uint8_t *lend_output(size_t len, size_t behind, uint32_t fill) {
+  if (len > OUTPUT || behind > GUARD) stop("output too long");
+  for (uint8_t *p = output_end - OUTPUT - 2 * GUARD; p < output_end; p++) {
+    fill ^= fill << 13, fill ^= fill >> 17, fill ^= fill << 5;
+    *p = (uint8_t)fill;
+  }
+  memcpy(output_copy, output_end - OUTPUT - 2 * GUARD, OUTPUT + 2 * GUARD);
+  return output_end - behind - len;
+}
+
+/* Gives the answer, the bytes said to be written, and the first `shown` bytes of the output. */
+static void give_written(reamstork_written written, const uint8_t *out, size_t len, size_t shown) {
+  const uint8_t *first = output_end - OUTPUT - 2 * GUARD;
+  size_t from = (size_t)(out - first), end = from + (written.answer ? 0 : written.bytes);
+  if (shown > len) stop("bytes that are not there");
+  uint32_t *give_to = give(2 + (shown + 3) / 4);
+  give_to[0] = written.answer, give_to[1] = written.bytes;
+  memset(give_to + 2, 0, (shown + 3) / 4 * 4);
+  if (shown) memcpy(give_to + 2, out, shown);
+  if (!written.answer && written.bytes > len) fault(MORE_THAN_LENT, NULL, written.bytes), end = from + len;
+  for (size_t i = 0; i < OUTPUT + 2 * GUARD; i++)
+    if ((i < from || i >= end) && first[i] != output_copy[i])
+      fault(i < from || i >= from + len ? GUARD_OF_OUTPUT : written.answer ? REFUSED_WROTE : OUTPUT_BEHIND, NULL, i - from);
+  calls++;
+}
+
+static void call_begin(void) {
+  size_t len = next(), behind = next();
+  uint8_t *out = lend_output(len, behind, next());
+  size_t shown = next();
+  give_written(reamstork_capture_begin(out, len), out, len, shown);
+}
+
+static void call_add(void) {
+  size_t len = next(), behind = next();
+  uint8_t *out = lend_output(len, behind, next());
+  size_t shown = next();
+  uint32_t seconds = next(), fraction = next(), original = next();
+  size_t size = next();
+  if (size > 2 * BLOCK) stop("data too long");
+  const uint32_t *bytes = next_many((size + 3) / 4);
+  uint8_t *data = packet_end - size;
+  memcpy(data, bytes, size);
+  give_written(reamstork_capture_add(out, len, seconds, fraction, original, data, size), out, len, shown);
+  if (memcmp(data, bytes, size)) fault(DATA_WRITTEN, NULL, 0);
+}
+
+/* Lengths that 32 bits do not hold: a header and a record of so many bytes into 2^32 bytes and some,
+   and a record of 2^32 bytes and some into as many. Gives the answers and the bytes written of the
+   three, or six times the greatest number where there is no such memory. */
+static void call_far(void) {
+  size_t more = next(), size = next(), whole = ((size_t)1 << 32) + more;
+  int how = MAP_PRIVATE | MAP_ANONYMOUS | MAP_NORESERVE;
+  if (more > BLOCK || size > BLOCK) stop("too far");
+  uint32_t *to = give(6);
+  memset(to, 0xFF, 24);
+  uint8_t *out = mmap(NULL, whole + BLOCK, PROT_READ | PROT_WRITE, how, -1, 0);
+  uint8_t *data = mmap(NULL, whole + BLOCK, PROT_READ, how, -1, 0);
+  if (out != MAP_FAILED && data != MAP_FAILED) {
+    reamstork_written head = reamstork_capture_begin(out, whole);
+    reamstork_written one = reamstork_capture_add(out, whole, 1, 2, 3, data, size);
+    reamstork_written none = reamstork_capture_add(out, whole, 1, 2, 3, data, whole);
+    to[0] = head.answer, to[1] = head.bytes, to[2] = one.answer, to[3] = one.bytes;
+    to[4] = none.answer, to[5] = none.bytes;
+    calls += 3;
+  }
+  if (out != MAP_FAILED) munmap(out, whole + BLOCK);
+  if (data != MAP_FAILED) munmap(data, whole + BLOCK);
+}
+
 /* ---- batches ---- */
 
 static int take(void *into, size_t size) {
@@ -501,6 +581,9 @@ static void run_batch(void) {
     else if (op == RECORDS) call_records();
     else if (op == FREEZE) call_freeze();
     else if (op == CARRY) call_carry();
+    else if (op == CAPTURE_BEGIN) call_begin();
+    else if (op == CAPTURE_ADD) call_add();
+    else if (op == CAPTURE_FAR) call_far();
     else if ((op >= CHECK && op <= WORST) || op == TALLY || (op >= IMAGE_WORDS && op <= IMAGE_WORST)) look(op);
     else stop("no such command");
   }
@@ -514,6 +597,8 @@ int main(void) {
   packet_end = (uint8_t *)walled(2 * BLOCK, &area, &size) + 2 * BLOCK;
   record = (reamstork_tallies *)(walled(BLOCK, &area, &size) + BLOCK / 4) - 1;
   for (size_t i = 0; i < GUARD; i++) ((uint32_t *)record - GUARD)[i] = guard_word(i);
+  output_end = (uint8_t *)walled(BLOCK, &area, &size) + BLOCK;
+  output_copy = room(NULL, OUTPUT + 2 * GUARD);
   while (take(&length, 4)) {
     batch_size = length;
     if (batch_size > batch_room) {

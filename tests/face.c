@@ -1,4 +1,4 @@
-/* What the header has beside the calls: the names of the fields, the texts of the answers, a rule that was read handed to a scan and to an insert, and a table listed and loaded again; its examples of packets that are refused; rules that never win; the worst packet of a table, and of its image; the image; and small stores, and a table carried from one.
+/* What the header has beside the calls: the names of the fields, the texts of the answers, a rule that was read handed to a scan and to an insert, and a table listed and loaded again; its examples of packets that are refused; rules that never win; the worst packet of a table, and of its image; the image; small stores, and a table carried from one; and captures written.
 
        face answers      a line for each answer, number and text
        face version      the version, and the same from its two numbers
@@ -449,6 +449,73 @@ static int kinds(void) {
   return 0;
 }
 
+/* Captures are written as the header tells of it, and its loop keeps the packets of one action. */
+static int captures(void) {
+  static uint8_t file[REAMSTORK_CAPTURE_HEADER + 4 * (REAMSTORK_RECORD_HEADER + 28)], before[sizeof file], longest[REAMSTORK_RECORD_MOST + 1], large[REAMSTORK_RECORD_HEADER + REAMSTORK_RECORD_MOST];
+  const uint8_t head[REAMSTORK_CAPTURE_HEADER] = { 0xd4, 0xc3, 0xb2, 0xa1, 2, 0, 4, 0, 0, 0, 0, 0, 0, 0, 0, 0, 0x00, 0x40, 0, 0, 101, 0, 0, 0 };
+  const uint8_t record[REAMSTORK_RECORD_HEADER + 3] = { 4, 3, 2, 1, 8, 7, 6, 5, 3, 0, 0, 0, 0xff, 0xff, 0xff, 0xff, 'a', 'b', 'c' };
+  const uint8_t udp[28] = { 0x45, 0, 0, 28, 0, 0, 0, 0, 64, 17, 0, 0, 0, 0, 0, 20, 0, 0, 0, 10, 0, 50, 0, 40, 0, 8, 0, 0 };
+  const uint32_t low[REAMSTORK_FIELDS] = { 10, 20, 17, 40, 50, 0 }, high[REAMSTORK_FIELDS] = { 15, 26, 37, 48, 59, 0 };
+  reamstork_written w;
+  size_t used, n;
+
+  SURE(sizeof(reamstork_written) == 8 && offsetof(reamstork_written, answer) == 0 && offsetof(reamstork_written, bytes) == 4);
+  SURE(REAMSTORK_CAPTURE_HEADER == 24 && REAMSTORK_RECORD_HEADER == 16 && REAMSTORK_RECORD_MOST == 16384 && REAMSTORK_TOO_LONG == 12);
+
+  /* refused: 8, and for a record 12 before it; no byte is written */
+  memset(file, 0x5a, sizeof file);
+  memset(before, 0x5a, sizeof before);
+  w = reamstork_capture_begin(file, REAMSTORK_CAPTURE_HEADER - 1);
+  SURE(w.answer == REAMSTORK_BAD_SIZE && w.bytes == 0);
+  w = reamstork_capture_begin(file, 0);
+  SURE(w.answer == REAMSTORK_BAD_SIZE && w.bytes == 0);
+  w = reamstork_capture_add(file, REAMSTORK_RECORD_HEADER + 2, 1, 2, 3, record, 3);
+  SURE(w.answer == REAMSTORK_BAD_SIZE && w.bytes == 0);
+  w = reamstork_capture_add(file, 0, 1, 2, 3, record, 0);
+  SURE(w.answer == REAMSTORK_BAD_SIZE && w.bytes == 0);
+  w = reamstork_capture_add(file, 0, 1, 2, 3, longest, sizeof longest);
+  SURE(w.answer == REAMSTORK_TOO_LONG && w.bytes == 0);
+  w = reamstork_capture_add(file, sizeof file, 1, 2, 3, longest, sizeof longest);
+  SURE(w.answer == REAMSTORK_TOO_LONG && w.bytes == 0);
+  w = reamstork_capture_add(file, sizeof file, 1, 2, 3, longest, REAMSTORK_RECORD_MOST);
+  SURE(w.answer == REAMSTORK_BAD_SIZE && w.bytes == 0);
+  SURE(memcmp(file, before, sizeof file) == 0);
+
+  /* done: these bytes, and those behind stay */
+  w = reamstork_capture_begin(file, REAMSTORK_CAPTURE_HEADER);
+  SURE(w.answer == REAMSTORK_DONE && w.bytes == REAMSTORK_CAPTURE_HEADER && memcmp(file, head, sizeof head) == 0);
+  SURE(memcmp(file + sizeof head, before, sizeof file - sizeof head) == 0);
+  w = reamstork_capture_add(file + 1, sizeof record, 0x01020304, 0x05060708, UINT32_MAX, record + REAMSTORK_RECORD_HEADER, 3);
+  SURE(w.answer == REAMSTORK_DONE && w.bytes == sizeof record && memcmp(file + 1, record, sizeof record) == 0 && file[0] == head[0] && memcmp(file + 1 + sizeof record, head + 1 + sizeof record, sizeof head - 1 - sizeof record) == 0);
+  for (n = 0; n < sizeof longest; n++) longest[n] = (uint8_t)(n * 7 % 251);
+  w = reamstork_capture_add(large, sizeof large, 0, 0, 0, longest, REAMSTORK_RECORD_MOST);
+  SURE(w.answer == REAMSTORK_DONE && w.bytes == sizeof large && memcmp(large + REAMSTORK_RECORD_HEADER, longest, REAMSTORK_RECORD_MOST) == 0);
+  SURE(large[8] == 0 && large[9] == 0x40 && large[10] == 0 && large[11] == 0);
+
+  /* the header's loop: of frames with two actions and some that are refused, those of one, until the room is full */
+  SURE(reamstork_start_with(one, len, 100, 8) == REAMSTORK_DONE && reamstork_insert(one, len, 7, 70, low, high) == REAMSTORK_DONE);
+  memset(file, 0x5a, sizeof file);
+  w = reamstork_capture_begin(file, sizeof file - 1);
+  used = w.bytes;
+  for (n = 0; w.answer == REAMSTORK_DONE && n < 30; n++) {
+    uint8_t frame[28];
+    memcpy(frame, udp, sizeof frame);
+    frame[19] = n % 3 == 1 ? 99 : 10;
+    reamstork_found f = reamstork_lookup_packet(one, len, frame, n % 3 == 2 ? 19 : 28);
+    if (f.answer != REAMSTORK_DONE || f.action != 70)
+      continue;
+    w = reamstork_capture_add(file + used, sizeof file - 1 - used, (uint32_t)n, 0, 28, frame, 28);
+    used += w.bytes;
+  }
+  SURE(w.answer == REAMSTORK_BAD_SIZE && n == 10 && used == REAMSTORK_CAPTURE_HEADER + 3 * (REAMSTORK_RECORD_HEADER + 28));
+  SURE(memcmp(file, head, sizeof head) == 0 && memcmp(file + used, before, sizeof file - used) == 0);
+  for (n = 0; n < 3; n++) {
+    const uint8_t *at = file + REAMSTORK_CAPTURE_HEADER + n * (REAMSTORK_RECORD_HEADER + 28);
+    SURE(at[0] == 3 * n && at[8] == 28 && at[12] == 28 && memcmp(at + REAMSTORK_RECORD_HEADER, udp, 28) == 0);
+  }
+  return 0;
+}
+
 int main(int argc, char **argv) {
   const char *what = argc > 1 ? argv[1] : "";
 
@@ -461,5 +528,5 @@ int main(int argc, char **argv) {
     printf("%s\n%d.%d\n", REAMSTORK_VERSION, REAMSTORK_VERSION_MAJOR, REAMSTORK_VERSION_MINOR);
     return 0;
   }
-  return rules() || packets() || lives() || worsts() || depths() || images() || kinds();
+  return rules() || packets() || lives() || worsts() || depths() || images() || kinds() || captures();
 }

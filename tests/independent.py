@@ -38,6 +38,7 @@ from records import bench_list, beside, corners, lists
 from tallies import differences, hostile_tallies, tallies, tally_edges
 from worst import (worst_alike, worst_damage, worst_examples, worst_sixty_four, worst_tables,
                    worst_ties, worst_tops, worst_worlds)
+from written import written_by_hand, written_far, written_files, written_lengths, written_numbers
 
 FIXED = [bench_table, starts, any_words_before, every_length, sizes_of_a_walk, rows_of_a_walk,
          full_tables, five_hundred_twelve, kinds, order_of_refusals, header_grid, seven_before_nine,
@@ -46,7 +47,8 @@ FIXED = [bench_table, starts, any_words_before, every_length, sizes_of_a_walk, r
          dead_ports, dead_sixty_four, dead_refusals, worst_examples, worst_ties, worst_tops,
          worst_sixty_four, worst_damage, frozen_examples, frozen_deep, frozen_worst, frozen_lengths,
          frozen_refusals, frozen_pokes, frozen_most, frozen_orders, frozen_cycles,
-         frozen_four_levels, carry_bench, carry_refusals, carry_full, carry_limits]
+         frozen_four_levels, carry_bench, carry_refusals, carry_full, carry_limits, written_by_hand,
+         written_lengths, written_numbers, written_far]
 
 # In this order again and again; the costly ones come seldom.
 RANDOM = [edits, hostile, fit, headers, frozen_worlds, carry_worlds, carry_hostile, edits,
@@ -55,7 +57,7 @@ RANDOM = [edits, hostile, fit, headers, frozen_worlds, carry_worlds, carry_hosti
           tallies, differences, tallies, hostile_tallies, lists, frozen_mazes, frozen_worlds,
           beside, port_tables, port_rule_damage, port_tables, cuts, many, hidden, hidden_worlds,
           hidden, hidden, worst_tables, worst_worlds, worst_tables, worst_alike, frozen_hostile,
-          frozen_alike, carry_worlds, carry_hostile]
+          frozen_alike, carry_worlds, carry_hostile, written_files]
 
 
 class Run:

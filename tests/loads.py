@@ -23,7 +23,8 @@ HEADER_BYTES = {0, 2, 3, 6, 7, 9, *range(12, 20)}
 # The commands of trace.c, and where it puts what it lends.
 (FILL, GET, START, START_WITH, INSERT, DELETE, CHECK, READ, RULE_AT, DEAD, WORST, CELLS, LOOKUP,
  LOOKUP_PACKET, LOOKUP_TALLY, SCAN, PREFIX, CLEAR, DIFFERENCE, IMAGE_WORDS, FREEZE, IMAGE_CHECK,
- IMAGE_LOOKUP, IMAGE_PACKET, IMAGE_TALLY, IMAGE_WORST, CARRY) = range(27)
+ IMAGE_LOOKUP, IMAGE_PACKET, IMAGE_TALLY, IMAGE_WORST, CARRY, CAPTURE_BEGIN,
+ CAPTURE_ADD) = range(29)
 # the words of these are an image's
 IMAGE_CALLS = (IMAGE_CHECK, IMAGE_LOOKUP, IMAGE_PACKET, IMAGE_TALLY, IMAGE_WORST)
 BASE, SIZE = 0x300000000, 0x100000
@@ -331,6 +332,31 @@ def see_carry(call, touched, result):
            differences(set(stored), set(range(total))))
 
 
+def see_written(call, touched, result):
+    """Exactly the bytes that it says are written, each of them; of the output none is loaded, and
+    of the data each byte is. With a refusal neither output nor data is touched. The header asks
+    for no data."""
+    length, out, *more = call.numbers
+    data, size = more[-1] if more else 0, len(call.packet)
+    if call.op == CAPTURE_BEGIN:
+        answer, total = (0, 24) if length >= 24 else (8, 0)
+    else:
+        answer = 12 if size > 16384 else 8 if length < 16 + size else 0
+        total = 0 if answer else 16 + size
+    expect((result[0], result[1]) == (answer, total), 'it gives %s', list(result[:2]))
+    read = size if call.op == CAPTURE_ADD and answer == 0 else 0
+    out += IMAGE
+    touched.only((out, total), (PACKET + data, read))
+    stored = set(touched.stored(out, total, 1))
+    expect(stored == set(range(total)), 'it writes other bytes of the output: %s',
+           differences(stored, set(range(total))))
+    expect(not touched.loaded(out, total, 1), 'it reads bytes of its output')
+    expect(not touched.stored(PACKET + data, read, 1), 'it writes the data')
+    loaded = set(touched.loaded(PACKET + data, read, 1))
+    expect(loaded == set(range(read)), 'it reads other bytes of the data: %s',
+           differences(loaded, set(range(read))))
+
+
 # The words over which the check was seen last, and how often it loads each of them: that is the
 # compiler's own choice.
 checked = {}
@@ -404,4 +430,5 @@ def see(call, touched, result):
          READ: see_reader, RULE_AT: see_reader, DEAD: see_dead, WORST: see_worst,
          CELLS: see_reader, IMAGE_WORDS: see_reader, IMAGE_CHECK: see_image_check,
          IMAGE_WORST: see_image_worst, FREEZE: see_freeze, CARRY: see_carry, IMAGE_PACKET: see_packet,
+         CAPTURE_BEGIN: see_written, CAPTURE_ADD: see_written,
          IMAGE_TALLY: see_tally}.get(call.op, see_edit)(call, touched, result)

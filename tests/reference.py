@@ -25,6 +25,7 @@ DONE = 0
 NUMBER_TOO_HIGH, BAD_RANGE, ALREADY_THERE, NOT_THERE, TABLE_FULL, NO_ROOM = 1, 2, 3, 4, 5, 6
 NOT_READABLE, BAD_START, BAD_STORE, BAD_PREFIX, ABOVE_TOP = 7, 8, 9, 10, 11
 NO_PLACE, CUT_SHORT = 13, 14
+TOO_SHORT, TOO_LONG = 8, 12  # of what writes a capture: its output, and a record
 
 Rule = namedtuple('Rule', 'number action low high')
 
@@ -488,10 +489,76 @@ def capture_records(capture):
     return packets, 0
 
 
+def numbered_records(capture):
+    """As capture_records, but with the numbers of each record: (seconds, fraction, original
+    length, bytes)."""
+    read = capture_records(capture)
+    if read is None:
+        return None
+    order, at, records = 'big' if capture[0] == 0xA1 else 'little', 24, []
+    for packet in read[0]:
+        seconds, fraction, size, original = (
+            int.from_bytes(capture[at + i:at + i + 4], order) for i in (0, 4, 8, 12))
+        assert size == len(packet)
+        records.append((seconds, fraction, original, packet))
+        at += 16 + size
+    return records, read[1]
+
+
+def backwards(number, size):
+    """A number in so many bytes, the least significant first."""
+    return bytes(number // 256 ** i % 256 for i in range(size))
+
+
+def capture_begin(length):
+    """(answer, what is written): the header of a capture, into that many bytes. A1 B2 C3 D4 in
+    reverse, version 2.4, two zero numbers, snapshot length 16,384, link type 101."""
+    if length < 24:
+        return (TOO_SHORT, b'')
+    return (DONE, bytes((0xA1, 0xB2, 0xC3, 0xD4))[::-1] + backwards(2, 2) + backwards(4, 2)
+            + backwards(0, 4) + backwards(0, 4) + backwards(16384, 4) + backwards(101, 4))
+
+
+def capture_add(length, seconds, fraction, original, data):
+    """(answer, what is written): a record, into that many bytes. 12 above 16,384 bytes, then 8."""
+    if len(data) > 16384:
+        return (TOO_LONG, b'')
+    if length < 16 + len(data):
+        return (TOO_SHORT, b'')
+    return (DONE, b''.join(backwards(n, 4) for n in (seconds, fraction, len(data), original))
+            + data)
+
+
+def written_capture(records):
+    """The capture of these records, each (seconds, fraction, original length, bytes)."""
+    return capture_begin(24)[1] + b''.join(
+        capture_add(16 + len(record[3]), *record)[1] for record in records)
+
+
 BENCH_RULES = (
     Rule(10, 2, (167772160, 0, 17, 5000, 0, 0), (167772415, 4294967295, 17, 5009, 65535, 0)),
     Rule(20, 3, (167772160, 0, 0, 0, 0, 0), (167772287, 4294967295, 255, 65535, 65535, 1)),
 )
+
+
+def bench_account():
+    account = Account()
+    account.start(words_needed(1024), 1024)
+    for rule in BENCH_RULES:
+        account.insert(*rule)
+    return account
+
+
+def kept(capture, action):
+    """What `keep` writes for a capture: one of the records, in their order, whose lookup gave
+    this action. A packet that is refused has no action, not even 0. None for no capture."""
+    read = numbered_records(capture)
+    if read is None:
+        return None
+    account = bench_account()
+    found = [account.lookup_packet(record[3]) for record in read[0]]
+    return written_capture([record for record, (answer, _, its, _) in zip(read[0], found)
+                            if answer == DONE and its == action])
 
 
 def bench_output(capture):
@@ -500,10 +567,7 @@ def bench_output(capture):
     if read is None:
         return 'refused 12\n'
     packets, ending = read
-    account = Account()
-    account.start(words_needed(1024), 1024)
-    for rule in BENCH_RULES:
-        account.insert(*rule)
+    account = bench_account()
     lines = ['packet answer rule action reads']
     for place, packet in enumerate(packets, 1):
         lines.append('%d %d %d %d %d' % ((place,) + account.lookup_packet(packet)))

@@ -24,7 +24,8 @@ enum { ENDS = 0x1000, TALLIES = 0x2000, PACKET = 0x4000, RECORDS = 0x8000, STORE
        IMAGE = 0x80000, SIZE = 0x100000, PATTERN = 0xA5 };
 enum { FILL, GET, START, START_WITH, INSERT, DELETE, CHECK, READ, RULE_AT, DEAD, WORST, CELLS,
        LOOKUP, LOOKUP_PACKET, LOOKUP_TALLY, SCAN, PREFIX, CLEAR, DIFFERENCE, IMAGE_WORDS, FREEZE,
-       IMAGE_CHECK, IMAGE_LOOKUP, IMAGE_PACKET, IMAGE_TALLY, IMAGE_WORST, CARRY };
+       IMAGE_CHECK, IMAGE_LOOKUP, IMAGE_PACKET, IMAGE_TALLY, IMAGE_WORST, CARRY, CAPTURE_BEGIN,
+       CAPTURE_ADD };
 
 extern char __executable_start, end;
 
@@ -107,6 +108,28 @@ static void carry(void) {
   CALL(uint32_t, reamstork_carry(words, len, store, store_len, c));
 }
 
+/* Into as many bytes as are said, all full of the pattern, where images stand; data lies where
+   packets do, and may go on over the room of records. Both begin as many bytes further on as is said, so
+   that they are aligned in every way. */
+static void capture(uint32_t op) {
+  size_t out_len = next(), out_shift = next();
+  uint8_t *out = (uint8_t *)lent + IMAGE + out_shift;
+  if (IMAGE + out_shift + out_len > SIZE) stop("too many bytes");
+  memset(lent + IMAGE, PATTERN, SIZE - IMAGE);
+  if (op == CAPTURE_BEGIN) {
+    CALL(reamstork_written, reamstork_capture_begin(out, out_len));
+    return;
+  }
+  uint32_t seconds = next(), fraction = next(), original = next();
+  size_t size = next(), shift = next();
+  if (PACKET + shift + size + 8 > STORE) stop("too many bytes");
+  memset(lent + PACKET, PATTERN, STORE - PACKET);
+  uint8_t *data = (uint8_t *)lend(PACKET, (shift + size + 3) / 4) + shift;
+  memset(lent + PACKET, PATTERN, shift);
+  memset(data + size, PATTERN, 4);
+  CALL(reamstork_written, reamstork_capture_add(out, out_len, seconds, fraction, original, data, size));
+}
+
 static void lookup(uint32_t op) {
   uint32_t a = next(), b = next(), c = next(), d = next(), e = next(), f = next();
   if (op == LOOKUP) { CALL(reamstork_found, reamstork_lookup(words, len, a, b, c, d, e, f)); }
@@ -169,6 +192,7 @@ static void run(uint32_t op) {
   else if (op <= LOOKUP_TALLY || op == IMAGE_PACKET || op == IMAGE_TALLY) lookup_packet(op);
   else if (op == FREEZE) freeze();
   else if (op == CARRY) carry();
+  else if (op == CAPTURE_BEGIN || op == CAPTURE_ADD) capture(op);
   else if (op == SCAN) scan();
   else if (op <= DIFFERENCE) small(op);
   else stop("no such command");

@@ -24,6 +24,9 @@ packets, tally records and lists. Of each call is seen (loads.py):
   others. It writes none.
 - A freeze writes every word of its image and none behind them; refused, it touches none. So
   does a carrying with its new store, and it writes no word of the old one.
+- A header or a record of a capture writes the bytes that it says and none behind them, and
+  loads none of its output; a record loads the bytes of its data and no others. Refused, it
+  touches neither.
 - A scan loads words of every record of its list, no more than the list has, and touches
   nothing else that could be lent.
 - Dead and worst go over the cells once for the check. Then dead goes at most once through the
@@ -48,10 +51,10 @@ from collections import Counter
 from calls import ARCHIVE, Program, Script, cannot
 from image import BLOCK, DOWN, KEYS, image
 from laid import BEGIN, CELL, KIND, kind_of, laid, link_of
-from loads import (CARRY, CELLS, CHECK, CLEAR, DEAD, DELETE, DIFFERENCE, FREEZE, IMAGE_CHECK,
-                   IMAGE_LOOKUP, IMAGE_PACKET, IMAGE_TALLY, IMAGE_WORDS, IMAGE_WORST,
-                   INSERT, LOOKUP, LOOKUP_PACKET, LOOKUP_TALLY, PREFIX, READ, RULE_AT, SCAN, START,
-                   START_WITH, WORST, Fault, Touched, see)
+from loads import (CAPTURE_ADD, CAPTURE_BEGIN, CARRY, CELLS, CHECK, CLEAR, DEAD, DELETE, DIFFERENCE,
+                   FREEZE, IMAGE_CHECK, IMAGE_LOOKUP, IMAGE_PACKET, IMAGE_TALLY, IMAGE_WORDS,
+                   IMAGE_WORST, INSERT, LOOKUP, LOOKUP_PACKET, LOOKUP_TALLY, PREFIX, READ, RULE_AT,
+                   SCAN, START, START_WITH, WORST, Fault, Touched, see)
 from reference import (DEFAULT, KINDS, LARGE, LEAST_CELLS, PLACES, SMALL, TOPS, Rule, count_cells,
                        default_rule, words_needed)
 from tables import World, packet_of, random_packet, values_above, values_near
@@ -70,7 +73,8 @@ CALLS = {
     IMAGE_LOOKUP: ('image_lookup', {0, 9, 11}),
     IMAGE_PACKET: ('image_lookup_packet', {0, 7, 9, 14}),
     IMAGE_TALLY: ('image_lookup_packet_tally', {0, 7, 9, 13, 14}),
-    IMAGE_WORST: ('image_worst', {0, 9})}
+    IMAGE_WORST: ('image_worst', {0, 9}),
+    CAPTURE_BEGIN: ('capture_begin', {0, 8}), CAPTURE_ADD: ('capture_add', {0, 8, 12})}
 BEHIND = 0xA5A5A5A5
 FULL = (0,) * 6, TOPS
 
@@ -329,6 +333,19 @@ def over_rings(script, rng, words):
         script.packet(packet_of((1, 1, 1, 1, 1)), image=True)
 
 
+def captures(script, rng):
+    """Headers and records into as many bytes as they take, into fewer, and into more."""
+    for length in (0, 1, 23, 24, 25, 100):
+        script.capture_begin(length, rng.randrange(16))
+    for size in (0, 1, 2, 3, 7, 8, 15, 16, 17, 31, 32, 33, 63, 64, 65, 100, 255, 1500, 16383, 16384,
+                 16385, 20000):
+        data = rng.randbytes(size)
+        for length in (0, 15, size, size + 15, size + 16, size + 17, size + 500):
+            script.capture_add(length, rng.randrange(16),
+                               [rng.choice((0, 2 ** 32 - 1, rng.getrandbits(32))) for _ in range(3)],
+                               data, rng.randrange(16))
+
+
 def all_calls(program, rng, count):
     script = Script()
     made = list(tables(program, rng, count))
@@ -342,6 +359,7 @@ def all_calls(program, rng, count):
         over_maze(script, rng, *table)
     for numbers in ((0x0a000000, 24), (0x0a000001, 24), (0, 33)):
         script.call(PREFIX, *numbers)
+    captures(script, rng)
     script.call(CLEAR)
     script.call(DIFFERENCE, 5, 3)
     return script

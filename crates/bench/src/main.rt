@@ -1,16 +1,12 @@
 // The bench program: starts a store of 1,024 cells, inserts rules 10 and 20, reads a classic capture from standard input and writes what the lookup says of each of its packets.
 //
-// Only reading, printing and the loop are here. What the bytes of a capture are is said by `capture`, what was read of a record and its line by `listing`, and what a packet gets by `lookup`. Memory is the same for a capture of any size.
+// Only reading, printing and the loop are here. What the store holds is said by `rules`, what the bytes of a capture are is said by `capture`, what was read of a record and its line by `listing`, and what a packet gets by `lookup`. Memory is the same for a capture of any size.
 ghost use mathlib.Core.Path.{_≡_};
 ghost use Prim.Native.Nat.{_≤_};
 ghost use lib.ListN.{length};
-ghost use Rattle.model.specs.Bench.{rule10, rule20};
-ghost use Rattle.ipv4.specs.Rule.{given};
-ghost use Rattle.bench.specs.Store.{benchWords};
 ghost use Rattle.bench.specs.Room.{staying};
 ghost use Rattle.listing.specs.Records.{lengthOf};
 use capture::Opened;
-use ipv4::Rule;
 use libc::STDIN_FILENO;
 use libc::STDOUT_FILENO;
 use listing::Read;
@@ -18,7 +14,7 @@ use octets::Order;
 
 fn main() {
     let mut words = [0u32; 16384];
-    fill(&mut words);
+    rules::fill(&mut words);
     let mut head = [0u8; 24];
     let got = io::read_full(STDIN_FILENO, &mut head);
     let Opened::Capture(order) = capture::open(&head[..got]) else {
@@ -27,39 +23,6 @@ fn main() {
     };
     io::write_all(STDOUT_FILENO, b"packet answer rule action reads\n");
     list(&words, order);
-}
-
-// Makes the words the store of the bench table.
-fn fill(words: &mut [u32])
-    ensures { λ _. ⌜ now (words .exit) ≡ benchWords (now (words .entry)) ⌝ }
-{
-    store::start(words, 1024, 0);
-    store::insert(words, rule_10());
-    store::insert(words, rule_20());
-}
-
-// Destination 10.0.0.0 to 10.0.0.255, any source, protocol 17, destination port 5000 to 5009, any source port, of packets with ports.
-fn rule_10() -> Rule
-    ensures { λ r. ⌜ given r ≡ rule10 ⌝ }
-{
-    Rule {
-        number: 10,
-        action: 2,
-        low: [167772160, 0, 17, 5000, 0, 0],
-        high: [167772415, 4294967295, 17, 5009, 65535, 0],
-    }
-}
-
-// Destination 10.0.0.0 to 10.0.0.127, all else full.
-fn rule_20() -> Rule
-    ensures { λ r. ⌜ given r ≡ rule20 ⌝ }
-{
-    Rule {
-        number: 20,
-        action: 3,
-        low: [167772160, 0, 0, 0, 0, 0],
-        high: [167772287, 4294967295, 255, 65535, 65535, 1],
-    }
 }
 
 // Room for the longest record that is listed.

@@ -14,6 +14,7 @@ ghost use Rattle.worst.specs.Worst.{worstSays};
 ghost use Rattle.frozen.specs.Frozen.{totalSays, totalGives, freezeSays, freezeWords, imageSays};
 ghost use Rattle.image.specs.Image.{imageLookup, imagePacket, imageTally, imageTallies};
 ghost use Rattle.depths.specs.Depths.{imageWorst};
+ghost use Rattle.writing.specs.Writing.{beginSays, beginLeaves, addSays, addLeaves};
 ghost use Rattle.reamstork.specs.Face.{ruleOf, ruleRead, checkSays};
 use audit::Count;
 use freeze::Size;
@@ -24,6 +25,7 @@ use prefix::Range;
 use scan::Winner;
 use tally::Tallies;
 use worst::Most;
+use writing::Written;
 
 // What reading a rule gives: the answer, and the rule, or zeros with a refusal.
 #[repr(C)]
@@ -331,4 +333,26 @@ pub extern "C" fn reamstork_image_lookup_packet_tally(
         &mut tallies.packets,
         &mut tallies.bytes,
     )
+}
+
+// Begins a capture: writes a file header into the first bytes of a slice.
+#[no_mangle]
+pub extern "C" fn reamstork_capture_begin(out: &mut [u8]) -> Written
+    ensures { λ r. ⌜ (r ≡ beginSays (now (out .entry))) × (now (out .exit) ≡ beginLeaves (now (out .entry))) ⌝ }
+{
+    writing::begin(out)
+}
+
+// Adds a record to a capture: writes its header and its data into the first bytes of a slice.
+#[no_mangle]
+pub extern "C" fn reamstork_capture_add(
+    out: &mut [u8],
+    seconds: u32,
+    fraction: u32,
+    original: u32,
+    data: &[u8],
+) -> Written
+    ensures { λ r. ⌜ (r ≡ addSays (now (out .entry)) (now («data» .entry))) × (now (out .exit) ≡ addLeaves (now (out .entry)) seconds fraction original (now («data» .entry))) ⌝ }
+{
+    writing::add(out, seconds, fraction, original, data)
 }

@@ -1,0 +1,4 @@
+pub mod Writing
+pub mod Packets
+pub mod Back
+pub mod Examples
