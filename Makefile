@@ -5,6 +5,8 @@ PREFIX ?= /usr/local
 LIBDIR ?= $(PREFIX)/lib
 INCLUDEDIR ?= $(PREFIX)/include
 DOCDIR ?= $(PREFIX)/share/doc/reamstork
+BINDIR ?= $(PREFIX)/bin
+MANDIR ?= $(PREFIX)/share/man
 SECONDS_LONG ?= 3600
 
 # The archive that the compiler writes is for x86-64; that for Arm is made from the same module.
@@ -18,7 +20,15 @@ else
 $(error MACHINE is '$(MACHINE)': there are archives for x86_64 and for aarch64)
 endif
 
-.PHONY: help run keep lib install uninstall example test soak bench-speed bench-before bench-growth bench-peers bench-stack bench-place bench-cells mutants must-fail edits-list clean kit tools capture
+# The command is for the machine that it is built on, and libpcap is that machine's own.
+TOOL = target/tool/reamstork
+ifeq ($(shell uname -m),aarch64)
+TOOL_ARCHIVE = $(ARM)
+else
+TOOL_ARCHIVE = $(X86)
+endif
+
+.PHONY: help run keep lib tool install uninstall example test soak bench-speed bench-before bench-growth bench-peers bench-stack bench-place bench-cells mutants must-fail edits-list clean kit tools capture
 # Two provers over one target/ would be in each other's way.
 .NOTPARALLEL:
 .DELETE_ON_ERROR:
@@ -31,14 +41,18 @@ install uninstall: export PREFIX := $(PREFIX)
 install uninstall: export LIBDIR := $(LIBDIR)
 install uninstall: export INCLUDEDIR := $(INCLUDEDIR)
 install uninstall: export DOCDIR := $(DOCDIR)
+install uninstall: export BINDIR := $(BINDIR)
+install uninstall: export MANDIR := $(MANDIR)
+install uninstall: export TOOL := $(if $(filter $(ARCHIVE),$(TOOL_ARCHIVE)),$(TOOL))
 install uninstall: export DESTDIR := $(DESTDIR)
 
 help:
 	@echo 'make run [CAPTURE=file.pcap]   prove, build and run the bench program on a capture'
 	@echo 'make keep                      prove and build the program keep: target/bin/keep ACTION <in.pcap >out.pcap'
 	@echo 'make lib [MACHINE=aarch64]     prove and build the library for C: $(ARCHIVE)'
-	@echo 'make install [PREFIX=/usr/local] [LIBDIR=..] [INCLUDEDIR=..] [DOCDIR=..] [DESTDIR=..] [MACHINE=aarch64]'
-	@echo '                               install what make lib built; make uninstall removes it'
+	@echo 'make tool                      build the command reamstork for this machine: $(TOOL)'
+	@echo 'make install [PREFIX=/usr/local] [LIBDIR=..] [INCLUDEDIR=..] [DOCDIR=..] [BINDIR=..] [MANDIR=..] [DESTDIR=..] [MACHINE=aarch64]'
+	@echo '                               install what make lib and make tool built; make uninstall removes it'
 	@echo 'make example                   compile and run examples/gateway.c'
 	@echo 'make test                      prove every crate, try every must-fail edit, run every test'
 	@echo 'make soak [SECONDS_LONG=3600]  the independent second program for as long as you like'
@@ -81,6 +95,12 @@ keep: target/bin/keep
 lib: $(ARCHIVE)
 	@echo 'the library for $(MACHINE): $(ARCHIVE), its header: include/reamstork.h'
 
+$(TOOL): $(TOOL_ARCHIVE) include/reamstork.h $(wildcard tool/*.c tool/*.h) scripts/tool
+	@scripts/tool $(TOOL_ARCHIVE) $@
+
+tool: $(TOOL)
+	@echo 'the command: $(TOOL), its manual: tool/reamstork.1'
+
 capture:
 	@scripts/run --look "$$CAPTURE"
 
@@ -90,7 +110,9 @@ run: capture target/bin/bench
 # Neither needs the kit. An archive that is older than the sources may not fit the header beside it.
 install:
 	@[ ! -f $(ARCHIVE) ] || $(MAKE) --no-print-directory -q $(ARCHIVE) || { echo "the sources are newer than $(ARCHIVE): run 'make lib MACHINE=$(MACHINE)' first, then install" >&2; exit 2; }
-	@scripts/install install
+	@if [ -f "$(TOOL)" ] && [ $(ARCHIVE) = $(TOOL_ARCHIVE) ] && ! $(MAKE) --no-print-directory -q $(TOOL); then \
+		echo "not installed, since the sources are newer: $(TOOL). 'make tool' builds it anew" >&2; TOOL= scripts/install install; \
+	else scripts/install install; fi
 
 uninstall:
 	@scripts/install uninstall

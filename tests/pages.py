@@ -4,8 +4,8 @@
     tests/pages.py
 
 In README.md, CHANGELOG.md and docs/*.md, between backquotes:
-- a path that begins with crates/, docs/, examples/, include/, plain/, scripts/ or
-  tests/ is a file or a folder; * stands for any name, a word in capitals is left out;
+- a path that begins with crates/, docs/, examples/, include/, plain/, scripts/, tests/ or
+  tool/ is a file or a folder; * stands for any name, a word in capitals is left out;
 - crate/label is a must-fail edit;
 - `make word` is a target of the Makefile;
 - a page X.md stands in docs/ or at the top;
@@ -22,7 +22,7 @@ from pathlib import Path
 
 ROOT = Path(__file__).resolve().parent.parent
 PAGES = [ROOT / 'README.md', ROOT / 'CHANGELOG.md', *sorted((ROOT / 'docs').glob('*.md'))]
-FOLDERS = 'crates|docs|examples|include|plain|scripts|tests'
+FOLDERS = 'crates|docs|examples|include|plain|scripts|tests|tool'
 PATH = re.compile(r'(?:%s)/[\w./*-]*' % FOLDERS)
 EDIT = re.compile(r'([a-z0-9]+)/([a-z0-9_]+)')
 DECLARED = re.compile(r'^[a-z][a-z0-9_ ]*[ *](reamstork_[a-z_]*)\(.*\);$', re.M)
@@ -58,7 +58,7 @@ class Pages:
 
     def names(self, page):
         words = set()
-        for pattern in ('crates/**/*.antt', 'crates/**/*.rt', 'tests/*.py', 'tests/*.c', 'include/*.h'):
+        for pattern in ('crates/**/*.antt', 'crates/**/*.rt', 'tests/*.py', 'tests/*.c', 'include/*.h', 'tool/*.c'):
             for path in ROOT.glob(pattern):
                 words.update(NAME.findall(path.read_text(errors='replace')))
         text = page.read_text()
