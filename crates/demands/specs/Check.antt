@@ -36,13 +36,13 @@ abbrev pub cellsUsed : Kind → List ℕ → List ℕ
 cellsUsed k ws = cellsFrom k ws (walkLink k ws) (treeOf k (tableOf k ws))
 
 pub record SoundStore (k : Kind) (ws : List ℕ) : Type 0 where
-  -- "A store of c cells (5 to 65,536) takes 1,024 + 8 × c words"; by P4 "The least c becomes 6"
+  -- "A store of c cells (5 to 65,536) takes 1,024 + 8 × c words"; by P4 "The least c becomes 6", by P9 "a new store takes 8,192 + 8 × c words"
   pub least : fieldCount k ≤ cellsIn ws
   pub most : cellsIn ws ≤ 65536
   pub long : size k (cellsIn ws) ≤ length ws
   -- word 2 names the kind
   pub marked : getD ws 2 0 ≡ k .mark
-  -- "a table within these limits": "At most 64 rules besides the default, kept by rising number", numbers of at most 65,534, right ranges
+  -- "a table within these limits": "At most 64 rules besides the default, kept by rising number", by P9 512 in a large store, numbers of at most 65,534, right ranges
   pub few : length (rulesIn k ws) ≤ k .most
   pub rising : Rising (map numberOf (rulesIn k ws))
   pub numbers : (r : Rule) → In r (rulesIn k ws) → r .number ≤ 65534

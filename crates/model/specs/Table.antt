@@ -120,7 +120,7 @@ abbrev pub allRight : Kind → List Rule → Bool
 allRight k [] = true
 allRight k (r ∷ rs) = ruleRight k r && allRight k rs
 
--- "a table within these limits": "A rule's number is 0 to 65,534"; "At most 64 rules besides the default, kept by rising number"; right ranges
+-- "a table within these limits": "A rule's number is 0 to 65,534"; "At most 64 rules besides the default, kept by rising number", and by P9 as many as the kind of store takes; right ranges
 abbrev pub within : Kind → Table → Bool
 within k t = leb (length (t .rules)) (k .most) && (risingFrom 0 (t .rules) && allRight k (t .rules))
 
@@ -149,7 +149,7 @@ withRule r t = record { action = t .action; rules = added r (t .rules) }
 abbrev pub without : ℕ → Table → Table
 without n t = record { action = t .action; rules = removed n (t .rules) }
 
--- What insert says of a table that stands in a store of c cells, in document 01's order: 1, "rule number above 65,534"; 2, "a low end above its high end, or a high end above the top", and "also for a narrow port range with anything but 0 to 0 in field 6"; 3, "number already there"; 5, "64 rules stand already"; 6, "the tree of the new table has more than c locations"; 0, done.
+-- What insert says of a table that stands in a store of c cells, in document 01's order: 1, "rule number above 65,534"; 2, "a low end above its high end, or a high end above the top", and "also for a narrow port range with anything but 0 to 0 in field 6"; 3, "number already there"; 5, "64 rules stand already", by P9 "at the store's own limit"; 6, "the tree of the new table has more than c locations"; 0, done.
 abbrev pub insertAnswer : Kind → ℕ → Table → Rule → ℕ
 insertAnswer k c t r =
     cond (ltb 65534 (r .number)) 1
