@@ -1,6 +1,6 @@
 -- Request P9's carrying in plain facts holds: what is left is the text of the old store's table.
 -- Assumes nothing.
-use mathlib.Core.Path.{_≡_, refl, sym, ap, ap₂, subst⁻¹, _∙_}
+use mathlib.Core.Path.{_≡_, refl, sym, ap, _∙_}
 use mathlib.Core.Bool.{Bool, true, false, cond}
 use mathlib.Core.List.{List}
 use Prim.Native.Nat.{ℕ, _≤_, _<_}
@@ -8,16 +8,16 @@ use native.Mathlib.Omega.{arith}
 use lib.Dec.{ltb}
 use lib.ListN.{take}
 use borrow.Author.Tests.{ltb-true, ltb-false}
-use Rattle.model.specs.Table.{Kind, Table, cellsOf}
+use Rattle.model.specs.Table.{Table, cellsOf}
 use Rattle.model.specs.Ipv4.{ipv4, large, isLarge, kindIn, ipv4-shaped}
-use Rattle.layout.specs.Store.{size, cellsIn, tableOf, roomFor, holding, startWords}
+use Rattle.layout.specs.Store.{size, tableOf, roomFor, holding, startWords}
 use Rattle.layout.proofs.Sound.{Roomy, roomy}
 use Rattle.demands.specs.Calls.{Passes, NoRoom}
 use Rattle.demands.specs.Demand1.{Refuses, done}
-use Rattle.demands.specs.Demand3.{History, wordsLeft, SameRules, Twins}
+use Rattle.demands.specs.Demand3.{History, wordsLeft, SameRules}
 use Rattle.demands.specs.Carry.{answerTo, carriedTo, Carried, Past, started, edited, carried, Carry}
 use Rattle.demands.proofs.Room.{no-room, room-there}
-use Rattle.demands.proofs.Held.{Leaves, right, begins-with, checked-0, done-leaves, leaves, start-leaves}
+use Rattle.demands.proofs.Held.{Leaves, right, checked-0, done-leaves, leaves, start-leaves}
 use Rattle.demands.proofs.KindNamed.{shaped-in, by-pass, pass-in, within-large}
 use Rattle.demands.proofs.Demand1.{line, on-line, check-line, spares}
 use Rattle.demands.proofs.Demand3.{edit-on, stays, same-table, twins, same-front}

@@ -17,7 +17,7 @@ use Rattle.header.specs.declared.Packet.{Packet}
 use Rattle.header.specs.declared.Header.the-variants.{Values}
 use Rattle.header.specs.Header.{headerOf}
 use Rattle.header.specs.Facts.{WithinTops, within-tops}
-use Rattle.layout.specs.Store.{size, text, cellsIn, tableOf, unless, startWords, insertSays, deleteSays, cellsSays, cellsGives}
+use Rattle.layout.specs.Store.{size, text, cellsIn, tableOf, unless, startWords, insertSays, deleteSays}
 use Rattle.lookup.specs.declared.Found.{Found}
 use Rattle.lookup.specs.Walk.{lookupValues, lookupPacket}
 use Rattle.demands.specs.Calls.{Passes, rulesIn, everyIn, fieldCount, valuesIn, Bytes, lookup}

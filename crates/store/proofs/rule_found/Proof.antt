@@ -4,7 +4,6 @@ use borrow.Author.Needs.{needs}
 use mathlib.Core.Path.{sym, ap, _∙_}
 use native.Mathlib.Omega.{arith}
 use Prim.Native.Nat.{suc, _*_}
-use lib.ListN.{length}
 use Rattle.model.specs.Ipv4.{large, kindIn}
 use Rattle.model.specs.Table.{Kind}
 use Rattle.table.specs.Rows.{kindOf, ruleIn}
