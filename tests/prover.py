@@ -26,6 +26,7 @@ from threading import Lock
 ROOT = Path(__file__).resolve().parent.parent
 PARTS = ('src', 'specs', 'proofs')
 JOBS = min(os.cpu_count() or 1, 4)  # a check takes up to 1 GB
+MEMORY, ROOM = '/dev/shm', 2 << 30  # what the copies, baselines and provers' files take is below 1 GB
 # Errors that say that a proof has another shape than the code, rather than that something does not
 # hold. Where it cannot be told, as where a rewrite finds nothing to rewrite, it counts as shape.
 SHAPE = re.compile(r'has no (field )?`|can be named from here|not in scope|parse error|'
@@ -36,6 +37,21 @@ SHAPE = re.compile(r'has no (field )?`|can be named from here|not in scope|parse
 # Set by tests/all for the programs that it runs beside each other: a pipe with a byte for
 # each process that may still begin to work, and a file with the crates that are proved.
 SLOTS, PROVED = 'REAMSTORK_SLOTS', 'REAMSTORK_PROVED'
+
+
+def temporary():
+    """The folder for temporary files: one in memory, where there is one with room in which
+    programs may run, unless TMPDIR names another. A check writes each module that stands below
+    the crate to a file of its own and removes it, thousands of files, which takes seconds on a
+    disk."""
+    if 'TMPDIR' not in os.environ and os.access(MEMORY, os.W_OK):
+        system = os.statvfs(MEMORY)
+        if system.f_bavail * system.f_frsize >= ROOM and not system.f_flag & os.ST_NOEXEC:
+            return MEMORY
+    return tempfile.gettempdir()
+
+
+TEMPORARY = temporary()
 
 
 class NotProved(Exception):
@@ -148,7 +164,7 @@ class Baseline:
         """The prover's exit status (nothing when out of time), what it printed and how
         long it took for the crate with these files, {name: text}, in place of its own or beside them. Where
         `whole` is asked for, every module is proved again."""
-        with tempfile.TemporaryDirectory(prefix='changed-') as folder:
+        with tempfile.TemporaryDirectory(prefix='changed-', dir=TEMPORARY) as folder:
             copy, kept = Path(folder) / self.crate, Path(folder) / 'kept'
             for part in PARTS:
                 if (ROOT / 'crates' / self.crate / part).is_dir():
@@ -181,7 +197,7 @@ def run(words, kept, limit=None):
 
 def alone(words, limit):
     p = subprocess.Popen(words, stdout=subprocess.PIPE, stderr=subprocess.STDOUT, text=True,
-                         start_new_session=True)
+                         start_new_session=True, env={**os.environ, 'TMPDIR': TEMPORARY})
     try:
         out = p.communicate(timeout=limit)[0]
     except subprocess.TimeoutExpired:
@@ -237,7 +253,7 @@ def over_baselines(kit, plan, one, jobs):
     """Gives (crate, change, what one(crate, baseline, change) says) for each change
     of the plan, {crate: changes}, as they are done, up to `jobs` at once. Calling
     `baseline` gives the crate's, or raises NotProved."""
-    with tempfile.TemporaryDirectory(prefix='baselines-') as folder, \
+    with tempfile.TemporaryDirectory(prefix='baselines-', dir=TEMPORARY) as folder, \
             ThreadPoolExecutor(jobs) as pool:
         made = Baselines(kit, plan, folder)
         asked = {pool.submit(one, crate, lambda crate=crate: made.of(crate), change):
