@@ -209,9 +209,15 @@ def alone(words, limit):
     return p.returncode, out
 
 
+def unwrapped(out):
+    """What was printed, with the line below an error, where a long sentence goes on, behind it."""
+    return re.sub(r'(?m)^(.*\berror: .*)\n +(?!expected type|but this has type|computed as far)', r'\1 ', out)
+
+
 def first_error(out):
     """The first error that is not about a proof which only waits for another;
     where rattle itself makes the proof, what it says is not proved."""
+    out = unwrapped(out)
     errors = [x for x in re.findall(r'(?m)^.*\berror\b.*$', out) if 'was not admitted' not in x]
     errors += re.findall(r'(?m)^note: .*it is not proved that.*$', out)
     errors += re.findall(r'(?m)^fn \S+ no proof.*$', out)
