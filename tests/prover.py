@@ -9,6 +9,7 @@ Where tests/all runs several programs beside each other, each of their provers t
 of its slots, and a crate's changes wait until the crate is proved.
 """
 
+import fcntl
 import os
 import platform
 import re
@@ -35,8 +36,9 @@ SHAPE = re.compile(r'has no (field )?`|can be named from here|not in scope|parse
 
 
 # Set by tests/all for the programs that it runs beside each other: a pipe with a byte for
-# each process that may still begin to work, and a file with the crates that are proved.
-SLOTS, PROVED = 'REAMSTORK_SLOTS', 'REAMSTORK_PROVED'
+# each process that may still begin to work, a file with the crates that are proved, and the
+# folder of their baselines, which these programs share.
+SLOTS, PROVED, BASELINES = 'REAMSTORK_SLOTS', 'REAMSTORK_PROVED', 'REAMSTORK_BASELINES'
 
 
 def temporary():
@@ -60,14 +62,15 @@ class NotProved(Exception):
 
 @contextmanager
 def beside():
-    """Makes the slots and the file, and gives a function that puts a crate's name into the
-    file; '*' stands for all of them."""
-    with tempfile.TemporaryDirectory(prefix='beside-') as folder:
-        slots, proved = os.path.join(folder, 'slots'), os.path.join(folder, 'proved')
+    """Makes the slots, the file and the folder, and gives a function that puts a crate's name
+    into the file; '*' stands for all of them."""
+    with tempfile.TemporaryDirectory(prefix='beside-', dir=TEMPORARY) as folder:
+        slots, proved, baselines = (os.path.join(folder, x) for x in ('slots', 'proved', 'baselines'))
+        os.mkdir(baselines)
         os.mkfifo(slots)
         pipe = os.open(slots, os.O_RDWR)  # what is in a pipe stays while somebody has it open
         os.write(pipe, b'.' * JOBS)
-        os.environ[SLOTS], os.environ[PROVED] = slots, proved
+        os.environ.update({SLOTS: slots, PROVED: proved, BASELINES: baselines})
 
         def put(crate):
             with open(proved, 'a') as file:
@@ -75,8 +78,16 @@ def beside():
 
         put('')
         yield put
-        del os.environ[SLOTS], os.environ[PROVED]
+        del os.environ[SLOTS], os.environ[PROVED], os.environ[BASELINES]
         os.close(pipe)
+
+
+@contextmanager
+def locked(path):
+    """Has the file for itself inside, among all programs."""
+    with open(path, 'w') as file:
+        fcntl.flock(file, fcntl.LOCK_EX)
+        yield
 
 
 @contextmanager
@@ -145,20 +156,29 @@ class Baseline:
 
     def __init__(self, kit, crate, folder):
         self.kit, self.crate, self.kept = kit, crate, Path(folder) / crate
-        self.kept.mkdir()
-        self.take_over()
-        status, out, _ = run(kit.command(crate, ROOT / 'crates' / crate), self.kept)
-        if status != 0:
-            raise NotProved('%s itself is not proved (run rt check first): %s'
-                            % (crate, outcome(status, out)[1]))
+        with locked(self.kept.with_suffix('.lock')):
+            if not self.kept.is_dir():
+                self.make()
 
-    def take_over(self):
+    def make(self):
+        """Puts the baseline where it is kept once the crate itself is proved over it."""
+        with tempfile.TemporaryDirectory(dir=self.kept.parent) as folder:
+            made = Path(folder) / self.crate
+            made.mkdir()
+            self.take_over(made)
+            status, out, _ = run(self.kit.command(self.crate, ROOT / 'crates' / self.crate), made)
+            if status != 0:
+                raise NotProved('%s itself is not proved (run rt check first): %s'
+                                % (self.crate, outcome(status, out)[1]))
+            made.rename(self.kept)
+
+    def take_over(self, made):
         rlib = ROOT / 'target/rlib' / (self.crate + '.rlib')
         if not (rlib / 'format').exists() or not (rlib / 'toolchain/checked').is_dir():
             return
         made_by = re.search(r'(?m)^rattle-build (\S+)$', (rlib / 'format').read_text())
         if made_by:
-            shutil.copytree(rlib / 'toolchain/checked', self.kept / made_by[1].replace('/', '_'))
+            shutil.copytree(rlib / 'toolchain/checked', made / made_by[1].replace('/', '_'))
 
     def check(self, texts, limit=None, whole=False):
         """The prover's exit status (nothing when out of time), what it printed and how
@@ -261,7 +281,7 @@ def over_baselines(kit, plan, one, jobs):
     `baseline` gives the crate's, or raises NotProved."""
     with tempfile.TemporaryDirectory(prefix='baselines-', dir=TEMPORARY) as folder, \
             ThreadPoolExecutor(jobs) as pool:
-        made = Baselines(kit, plan, folder)
+        made = Baselines(kit, plan, os.environ.get(BASELINES, folder))
         asked = {pool.submit(one, crate, lambda crate=crate: made.of(crate), change):
                  (crate, change) for crate, changes in plan.items() for change in changes}
         try:
