@@ -157,8 +157,12 @@ class Run:
                 for change in group.values()}
 
     def alone(self, base, m):
-        new = {self.kit.files[m.crate]: apply(self.sources[m.crate].text, m.edits)}
-        return base.judge(new, self.options.limit)
+        """A mutant of which a person has said that it does the same passes whether it is proved or
+        refused, so a check of the whole crate would say nothing more."""
+        old = self.sources[m.crate].text
+        new = apply(old, m.edits)
+        return base.judge({self.kit.files[m.crate]: new}, self.options.limit,
+                          whole=change_of(m, old, new) not in self.same)
 
     def count(self, m, what, first, took):
         old = self.sources[m.crate].text

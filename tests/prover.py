@@ -198,11 +198,11 @@ class Baseline:
                                     None if whole else kept, limit)
         return status, out.replace(str(copy) + '/', ''), took
 
-    def judge(self, texts, limit=None):
+    def judge(self, texts, limit=None, whole=True):
         """The outcome, the line that shows it, and the prover's seconds. What is not
-        refused over the baseline is checked whole."""
+        refused over the baseline is checked whole, unless that is not asked for."""
         status, out, took = self.check(texts, limit)
-        if status == 0:
+        if status == 0 and whole:
             status, out, more = self.check(texts, whole=True)
             took += more
         return *outcome(status, out), took
