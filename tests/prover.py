@@ -231,7 +231,7 @@ def alone(words, limit):
 
 def unwrapped(out):
     """What was printed, with the line below an error, where a long sentence goes on, behind it."""
-    return re.sub(r'(?m)^(.*\berror: .*)\n +(?!expected type|but this has type|computed as far)', r'\1 ', out)
+    return re.sub(r'(?m)^(.*\berror: .*)\n +(?! |expected type|but this has type|computed as far)', r'\1 ', out)
 
 
 def first_error(out):
