@@ -106,12 +106,15 @@ def slot():
 
 
 def wait_for(crate):
-    """Waits until the crate is proved; without tests/all it is taken to be."""
+    """Waits until the crate is tried, and says whether it is proved then; without tests/all
+    that is not known."""
     while PROVED in os.environ:
         with open(os.environ[PROVED]) as file:
-            if not {crate, '*'}.isdisjoint(file.read().split('\n')):
-                return
+            found = file.read().split('\n')
+        if not {crate, '*'}.isdisjoint(found):
+            return crate in found
         time.sleep(0.5)
+    return False
 
 
 def crates():
@@ -152,33 +155,39 @@ class Kit:
 class Baseline:
     """A crate as it is proved, over which changes to it are checked, each in a copy
     of its own. What `rt check` left in target/rlib is taken over; what is not
-    there, as for a program, is proved here."""
+    there, as for a program, is proved here. The crate itself has to be proved, which is
+    seen here unless the gate has just proved it."""
 
-    def __init__(self, kit, crate, folder):
+    def __init__(self, kit, crate, folder, proved):
         self.kit, self.crate, self.kept = kit, crate, Path(folder) / crate
         with locked(self.kept.with_suffix('.lock')):
             if not self.kept.is_dir():
-                self.make()
+                self.make(proved)
 
-    def make(self):
-        """Puts the baseline where it is kept once the crate itself is proved over it."""
+    def make(self, proved):
+        """Puts the baseline where it is kept once the crate itself is proved."""
         with tempfile.TemporaryDirectory(dir=self.kept.parent) as folder:
             made = Path(folder) / self.crate
             made.mkdir()
-            self.take_over(made)
-            status, out, _ = run(self.kit.command(self.crate, ROOT / 'crates' / self.crate), made)
-            if status != 0:
-                raise NotProved('%s itself is not proved (run rt check first): %s'
-                                % (self.crate, outcome(status, out)[1]))
+            if not self.take_over(made) or not proved:
+                self.prove(made)
             made.rename(self.kept)
 
+    def prove(self, made):
+        status, out, _ = run(self.kit.command(self.crate, ROOT / 'crates' / self.crate), made)
+        if status != 0:
+            raise NotProved('%s itself is not proved (run rt check first): %s'
+                            % (self.crate, outcome(status, out)[1]))
+
     def take_over(self, made):
+        """Whether there are modules to take over."""
         rlib = ROOT / 'target/rlib' / (self.crate + '.rlib')
         if not (rlib / 'format').exists() or not (rlib / 'toolchain/checked').is_dir():
-            return
+            return False
         made_by = re.search(r'(?m)^rattle-build (\S+)$', (rlib / 'format').read_text())
         if made_by:
             shutil.copytree(rlib / 'toolchain/checked', made / made_by[1].replace('/', '_'))
+        return bool(made_by)
 
     def check(self, texts, limit=None, whole=False):
         """The prover's exit status (nothing when out of time), what it printed and how
@@ -265,9 +274,9 @@ class Baselines:
         """The crate's, or NotProved, as often as it is asked for."""
         with self.locks[crate]:
             if crate not in self.made:
-                wait_for(crate)
+                proved = wait_for(crate)
                 try:
-                    self.made[crate] = Baseline(self.kit, crate, self.folder)
+                    self.made[crate] = Baseline(self.kit, crate, self.folder, proved)
                 except NotProved as problem:
                     self.made[crate] = problem
         if isinstance(self.made[crate], NotProved):
