@@ -148,12 +148,14 @@ class Run:
 
     def each(self, crate, baseline, group):
         """Of each mutant of the group the outcome, the line that shows it, and the prover's
-        seconds; nothing when it is late."""
+        seconds; nothing when it is late. One that is refused by its shape is seen where it
+        stands, since beside it the other name may be what does not fit."""
         base = baseline()
         if self.late():
             return {}
         found = together(base, group, self.functions[crate], self.options.limit) if len(group) > 1 else {}
-        return {change.mutant: found.get(change) or self.alone(base, change.mutant)
+        facts = {change: what for change, what in found.items() if what[0] == 'fact'}
+        return {change.mutant: facts.get(change) or self.alone(base, change.mutant)
                 for change in group.values()}
 
     def alone(self, base, m):
