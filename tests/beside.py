@@ -21,7 +21,7 @@ and raises Bad where it cannot be made.
 import re
 
 from mutate import Source
-from prover import ROOT, SHAPE
+from prover import ROOT, SHAPE, unwrapped
 
 MOST = 16  # wrong functions in one copy of a crate
 
@@ -88,7 +88,10 @@ class Functions:
             for path in self.proofs(name):
                 folder = self.folder(name).name.replace(name, new)
                 place = path.relative_to(self.folder(name))
-                texts['proofs/%s/%s' % (folder, place)] = renamed(path.read_text(), name, new)
+                proof = renamed(path.read_text(), name, new)
+                if name in self.reached[name]:
+                    proof = renamed_calls(proof, name, new)
+                texts['proofs/%s/%s' % (folder, place)] = proof
         return texts
 
     def apart(self, name, others):
@@ -113,21 +116,31 @@ class Functions:
 
 
 def renamed(proof, name, new):
-    """A function's proof as that of the same function under another name: its modules, what
-    is needed where it calls itself and what such a call gave, and the theorem."""
-    short, long = name.replace('_', '-'), new.replace('_', '-')
+    """A function's proof as that of the same function under another name: its modules and the
+    theorem."""
     proof = re.sub(r'(·proofs\.proofs\.\+?)%s(?=[.\s])' % name, r'\g<1>' + new, proof)
     proof = re.sub(r'\bLts-%s(?!\w)' % name, 'Lts-' + new, proof)
-    proof = re.sub(r'(?<=\.)%s(?=\d*(?![\w-]))' % short, long, proof)
-    proof = re.sub(r'\bNeed-%s(?=-)' % short, 'Need-' + long, proof)
-    return re.sub(r'(?<![\w-])%s-spec(?![\w-])' % short, long + '-spec', proof)
+    return re.sub(r'(?<![\w-])%s-spec(?![\w-])' % dashed(name), dashed(new) + '-spec', proof)
+
+
+def renamed_calls(proof, name, new):
+    """The proof of a function that calls itself, with what is needed for such a call, what it
+    gave and what holds after it under the other name. In any other function's proof these
+    words are about something else of the same name."""
+    proof = re.sub(r'(?<=\.)%s(?=\d*(?![\w-]))' % dashed(name), dashed(new), proof)
+    proof = re.sub(r'\bAfter-%s(?=\d*(?![\w-]))' % dashed(name), 'After-' + dashed(new), proof)
+    return re.sub(r'\bNeed-%s(?=-)' % dashed(name), 'Need-' + dashed(new), proof)
+
+
+def dashed(name):
+    return name.replace('_', '-')
 
 
 def own_error(crate, out, text, name):
     """The first error in the proof of this function itself, or nothing."""
     if not re.search(r'(?m)^fn %s::%s:? (not proved|no proof)' % (crate, name), out):
         return None
-    for line in out.splitlines():
+    for line in unwrapped(out).splitlines():
         proof = re.match(r'proofs/([^/]+)/.*\berror\b', line)
         if proof and name in proof[1].split('+') and 'was not admitted' not in line:
             return line

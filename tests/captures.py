@@ -21,6 +21,7 @@ import socket
 import subprocess
 import sys
 import tempfile
+from functools import cache
 
 from independent import command_line
 from packets import address, capture_of
@@ -49,6 +50,7 @@ def tool(name):
     return found
 
 
+@cache
 def python_with_scapy():
     for python in PYTHONS:
         if shutil.which(python) and subprocess.run(

@@ -2,6 +2,7 @@
 """Tries must-fail edits: small wrong changes that the prover has to refuse.
 
     tests/must_fail.py [--crate NAME ..] [--only CRATE/LABEL ..] [--all] [--apart] [--jobs N] [--why] [--cut N]
+    tests/must_fail.py --same [--crate NAME ..]
     tests/must_fail.py --list | --listed | --move CRATE ..
 
 An edit is a file LABEL.edit. Those in crates/CRATE/must-fail are tried by `rt ci`,
@@ -11,7 +12,9 @@ what the edit touches is proved again. Run `rt check` first. --all tries both, -
 says how many provers at once, --why prints the error of each refusal too.
 
 Several edits are tried in one copy of a crate (beside.py). One that is not refused so is
-tried in a copy of its own; --apart tries all of them so.
+tried in a copy of its own; --apart tries all of them so. --same puts each function that has
+edits beside itself as it stands: it has to be proved there, else what refuses its edits
+there may be the other name. Run it where a function that has edits, or its proof, is new.
 
 The form is that of `rt must-fail`, one line for each part:
     # what must hold and the edit breaks, or what the edit does wrong
@@ -45,7 +48,7 @@ import sys
 from collections import Counter
 
 from beside import Bad, Functions, together
-from prover import JOBS, ROOT, Kit, NotProved, crates, over_baselines
+from prover import JOBS, ROOT, Kit, NotProved, crates, outcome, over_baselines
 
 HERE = ROOT / 'tests/must-fail'
 PAGE = ROOT / 'docs/EDITS.md'
@@ -114,6 +117,19 @@ class Edit:
         for _, old, new in self.changes:
             text = text.replace(old, new)
         return text
+
+
+class Same:
+    """A function as it stands, in place of an edit of it."""
+
+    def __init__(self, name):
+        self.name = name
+
+    def function(self, functions):
+        return self.name
+
+    def wrong(self, functions, name):
+        return functions.whole(name)
 
 
 def edits_of(crate):
@@ -191,6 +207,28 @@ def try_all(options):
     return 1 if failed else 0
 
 
+def try_same(options):
+    chosen, kit, counts = plan(options), Kit(), Counter()
+    functions = {crate: Functions(crate, kit.files[crate]) for crate in chosen}
+    groups = {}
+    for crate, edits in chosen.items():
+        names = sorted({edit.function(functions[crate]) for edit in edits} - {None})
+        beside = [Same(name) for name in names if functions[crate].head(name) is not None]
+        groups[crate] = functions[crate].groups(beside)
+
+    def each(crate, baseline, group):
+        status, out, _ = baseline().check(functions[crate].beside(group), LIMIT)
+        return status, '' if status == 0 else outcome(status, out)[1]
+
+    for crate, group, (status, first) in over_baselines(kit, groups, each, options.jobs):
+        counts[status == 0] += len(group)
+        names = ' '.join(change.name for change in group.values())
+        print('%s %s: %s %s' % ('proved' if status == 0 else 'FAILED', crate, names,
+                                first[:options.cut]), flush=True)
+    print('%d passed, %d failed' % (counts[True], counts[False]))
+    return 1 if counts[False] else 0
+
+
 # ---- the page of all edits
 
 def page():
@@ -256,6 +294,7 @@ def main():
     parser.add_argument('--jobs', type=int, default=JOBS)
     parser.add_argument('--all', action='store_true')
     parser.add_argument('--apart', action='store_true')
+    parser.add_argument('--same', action='store_true')
     parser.add_argument('--why', action='store_true', help='print the error of each refusal too')
     parser.add_argument('--cut', type=int, default=160)
     parser.add_argument('--list', action='store_true')
@@ -269,7 +308,7 @@ def main():
         return listed()
     if options.move:
         return move(options.move)
-    return try_all(options)
+    return try_same(options) if options.same else try_all(options)
 
 
 if __name__ == '__main__':

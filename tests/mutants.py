@@ -148,17 +148,23 @@ class Run:
 
     def each(self, crate, baseline, group):
         """Of each mutant of the group the outcome, the line that shows it, and the prover's
-        seconds; nothing when it is late."""
+        seconds; nothing when it is late. One that is refused by its shape is seen where it
+        stands, since beside it the other name may be what does not fit."""
         base = baseline()
         if self.late():
             return {}
         found = together(base, group, self.functions[crate], self.options.limit) if len(group) > 1 else {}
-        return {change.mutant: found.get(change) or self.alone(base, change.mutant)
+        facts = {change: what for change, what in found.items() if what[0] == 'fact'}
+        return {change.mutant: facts.get(change) or self.alone(base, change.mutant)
                 for change in group.values()}
 
     def alone(self, base, m):
-        new = {self.kit.files[m.crate]: apply(self.sources[m.crate].text, m.edits)}
-        return base.judge(new, self.options.limit)
+        """A mutant of which a person has said that it does the same passes whether it is proved or
+        refused, so a check of the whole crate would say nothing more."""
+        old = self.sources[m.crate].text
+        new = apply(old, m.edits)
+        return base.judge({self.kit.files[m.crate]: new}, self.options.limit,
+                          whole=change_of(m, old, new) not in self.same)
 
     def count(self, m, what, first, took):
         old = self.sources[m.crate].text

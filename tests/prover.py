@@ -9,6 +9,7 @@ Where tests/all runs several programs beside each other, each of their provers t
 of its slots, and a crate's changes wait until the crate is proved.
 """
 
+import fcntl
 import os
 import platform
 import re
@@ -26,6 +27,7 @@ from threading import Lock
 ROOT = Path(__file__).resolve().parent.parent
 PARTS = ('src', 'specs', 'proofs')
 JOBS = min(os.cpu_count() or 1, 4)  # a check takes up to 1 GB
+MEMORY, ROOM = '/dev/shm', 2 << 30  # what the copies, baselines and provers' files take is below 1 GB
 # Errors that say that a proof has another shape than the code, rather than that something does not
 # hold. Where it cannot be told, as where a rewrite finds nothing to rewrite, it counts as shape.
 SHAPE = re.compile(r'has no (field )?`|can be named from here|not in scope|parse error|'
@@ -34,8 +36,24 @@ SHAPE = re.compile(r'has no (field )?`|can be named from here|not in scope|parse
 
 
 # Set by tests/all for the programs that it runs beside each other: a pipe with a byte for
-# each process that may still begin to work, and a file with the crates that are proved.
-SLOTS, PROVED = 'REAMSTORK_SLOTS', 'REAMSTORK_PROVED'
+# each process that may still begin to work, a file with the crates that are proved, and the
+# folder of their baselines, which these programs share.
+SLOTS, PROVED, BASELINES = 'REAMSTORK_SLOTS', 'REAMSTORK_PROVED', 'REAMSTORK_BASELINES'
+
+
+def temporary():
+    """The folder for temporary files: one in memory, where there is one with room in which
+    programs may run, unless TMPDIR names another. A check writes each module that stands below
+    the crate to a file of its own and removes it, thousands of files, which takes seconds on a
+    disk."""
+    if 'TMPDIR' not in os.environ and os.access(MEMORY, os.W_OK):
+        system = os.statvfs(MEMORY)
+        if system.f_bavail * system.f_frsize >= ROOM and not system.f_flag & os.ST_NOEXEC:
+            return MEMORY
+    return tempfile.gettempdir()
+
+
+TEMPORARY = temporary()
 
 
 class NotProved(Exception):
@@ -44,14 +62,15 @@ class NotProved(Exception):
 
 @contextmanager
 def beside():
-    """Makes the slots and the file, and gives a function that puts a crate's name into the
-    file; '*' stands for all of them."""
-    with tempfile.TemporaryDirectory(prefix='beside-') as folder:
-        slots, proved = os.path.join(folder, 'slots'), os.path.join(folder, 'proved')
+    """Makes the slots, the file and the folder, and gives a function that puts a crate's name
+    into the file; '*' stands for all of them."""
+    with tempfile.TemporaryDirectory(prefix='beside-', dir=TEMPORARY) as folder:
+        slots, proved, baselines = (os.path.join(folder, x) for x in ('slots', 'proved', 'baselines'))
+        os.mkdir(baselines)
         os.mkfifo(slots)
         pipe = os.open(slots, os.O_RDWR)  # what is in a pipe stays while somebody has it open
         os.write(pipe, b'.' * JOBS)
-        os.environ[SLOTS], os.environ[PROVED] = slots, proved
+        os.environ.update({SLOTS: slots, PROVED: proved, BASELINES: baselines})
 
         def put(crate):
             with open(proved, 'a') as file:
@@ -59,8 +78,16 @@ def beside():
 
         put('')
         yield put
-        del os.environ[SLOTS], os.environ[PROVED]
+        del os.environ[SLOTS], os.environ[PROVED], os.environ[BASELINES]
         os.close(pipe)
+
+
+@contextmanager
+def locked(path):
+    """Has the file for itself inside, among all programs."""
+    with open(path, 'w') as file:
+        fcntl.flock(file, fcntl.LOCK_EX)
+        yield
 
 
 @contextmanager
@@ -79,12 +106,15 @@ def slot():
 
 
 def wait_for(crate):
-    """Waits until the crate is proved; without tests/all it is taken to be."""
+    """Waits until the crate is tried, and says whether it is proved then; without tests/all
+    that is not known."""
     while PROVED in os.environ:
         with open(os.environ[PROVED]) as file:
-            if not {crate, '*'}.isdisjoint(file.read().split('\n')):
-                return
+            found = file.read().split('\n')
+        if not {crate, '*'}.isdisjoint(found):
+            return crate in found
         time.sleep(0.5)
+    return False
 
 
 def crates():
@@ -125,30 +155,45 @@ class Kit:
 class Baseline:
     """A crate as it is proved, over which changes to it are checked, each in a copy
     of its own. What `rt check` left in target/rlib is taken over; what is not
-    there, as for a program, is proved here."""
+    there, as for a program, is proved here. The crate itself has to be proved, which is
+    seen here unless the gate has just proved it."""
 
-    def __init__(self, kit, crate, folder):
+    def __init__(self, kit, crate, folder, proved):
         self.kit, self.crate, self.kept = kit, crate, Path(folder) / crate
-        self.kept.mkdir()
-        self.take_over()
-        status, out, _ = run(kit.command(crate, ROOT / 'crates' / crate), self.kept)
+        with locked(self.kept.with_suffix('.lock')):
+            if not self.kept.is_dir():
+                self.make(proved)
+
+    def make(self, proved):
+        """Puts the baseline where it is kept once the crate itself is proved."""
+        with tempfile.TemporaryDirectory(dir=self.kept.parent) as folder:
+            made = Path(folder) / self.crate
+            made.mkdir()
+            if not self.take_over(made) or not proved:
+                self.prove(made)
+            made.rename(self.kept)
+
+    def prove(self, made):
+        status, out, _ = run(self.kit.command(self.crate, ROOT / 'crates' / self.crate), made)
         if status != 0:
             raise NotProved('%s itself is not proved (run rt check first): %s'
-                            % (crate, outcome(status, out)[1]))
+                            % (self.crate, outcome(status, out)[1]))
 
-    def take_over(self):
+    def take_over(self, made):
+        """Whether there are modules to take over."""
         rlib = ROOT / 'target/rlib' / (self.crate + '.rlib')
         if not (rlib / 'format').exists() or not (rlib / 'toolchain/checked').is_dir():
-            return
+            return False
         made_by = re.search(r'(?m)^rattle-build (\S+)$', (rlib / 'format').read_text())
         if made_by:
-            shutil.copytree(rlib / 'toolchain/checked', self.kept / made_by[1].replace('/', '_'))
+            shutil.copytree(rlib / 'toolchain/checked', made / made_by[1].replace('/', '_'))
+        return bool(made_by)
 
     def check(self, texts, limit=None, whole=False):
         """The prover's exit status (nothing when out of time), what it printed and how
         long it took for the crate with these files, {name: text}, in place of its own or beside them. Where
         `whole` is asked for, every module is proved again."""
-        with tempfile.TemporaryDirectory(prefix='changed-') as folder:
+        with tempfile.TemporaryDirectory(prefix='changed-', dir=TEMPORARY) as folder:
             copy, kept = Path(folder) / self.crate, Path(folder) / 'kept'
             for part in PARTS:
                 if (ROOT / 'crates' / self.crate / part).is_dir():
@@ -162,11 +207,11 @@ class Baseline:
                                     None if whole else kept, limit)
         return status, out.replace(str(copy) + '/', ''), took
 
-    def judge(self, texts, limit=None):
+    def judge(self, texts, limit=None, whole=True):
         """The outcome, the line that shows it, and the prover's seconds. What is not
-        refused over the baseline is checked whole."""
+        refused over the baseline is checked whole, unless that is not asked for."""
         status, out, took = self.check(texts, limit)
-        if status == 0:
+        if status == 0 and whole:
             status, out, more = self.check(texts, whole=True)
             took += more
         return *outcome(status, out), took
@@ -181,7 +226,7 @@ def run(words, kept, limit=None):
 
 def alone(words, limit):
     p = subprocess.Popen(words, stdout=subprocess.PIPE, stderr=subprocess.STDOUT, text=True,
-                         start_new_session=True)
+                         start_new_session=True, env={**os.environ, 'TMPDIR': TEMPORARY})
     try:
         out = p.communicate(timeout=limit)[0]
     except subprocess.TimeoutExpired:
@@ -193,9 +238,15 @@ def alone(words, limit):
     return p.returncode, out
 
 
+def unwrapped(out):
+    """What was printed, with the line below an error, where a long sentence goes on, behind it."""
+    return re.sub(r'(?m)^(.*\berror: .*)\n +(?! |expected type|but this has type|computed as far)', r'\1 ', out)
+
+
 def first_error(out):
     """The first error that is not about a proof which only waits for another;
     where rattle itself makes the proof, what it says is not proved."""
+    out = unwrapped(out)
     errors = [x for x in re.findall(r'(?m)^.*\berror\b.*$', out) if 'was not admitted' not in x]
     errors += re.findall(r'(?m)^note: .*it is not proved that.*$', out)
     errors += re.findall(r'(?m)^fn \S+ no proof.*$', out)
@@ -223,9 +274,9 @@ class Baselines:
         """The crate's, or NotProved, as often as it is asked for."""
         with self.locks[crate]:
             if crate not in self.made:
-                wait_for(crate)
+                proved = wait_for(crate)
                 try:
-                    self.made[crate] = Baseline(self.kit, crate, self.folder)
+                    self.made[crate] = Baseline(self.kit, crate, self.folder, proved)
                 except NotProved as problem:
                     self.made[crate] = problem
         if isinstance(self.made[crate], NotProved):
@@ -237,9 +288,9 @@ def over_baselines(kit, plan, one, jobs):
     """Gives (crate, change, what one(crate, baseline, change) says) for each change
     of the plan, {crate: changes}, as they are done, up to `jobs` at once. Calling
     `baseline` gives the crate's, or raises NotProved."""
-    with tempfile.TemporaryDirectory(prefix='baselines-') as folder, \
+    with tempfile.TemporaryDirectory(prefix='baselines-', dir=TEMPORARY) as folder, \
             ThreadPoolExecutor(jobs) as pool:
-        made = Baselines(kit, plan, folder)
+        made = Baselines(kit, plan, os.environ.get(BASELINES, folder))
         asked = {pool.submit(one, crate, lambda crate=crate: made.of(crate), change):
                  (crate, change) for crate, changes in plan.items() for change in changes}
         try:

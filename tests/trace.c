@@ -32,10 +32,17 @@ extern char __executable_start, end;
 static char *lent;
 static uint32_t *input, *results, *words;
 static size_t input_size, at, given, len;
+static int patterned; /* a file of SIZE bytes of the pattern */
 
 static void stop(const char *why) {
   fprintf(stderr, "trace: %s\n", why);
   exit(2);
+}
+
+/* Fills a place of what is lent with the pattern. The system writes it, since what the program
+   itself stores has lines in the trace. */
+static void pattern(void *to, size_t size) {
+  if (pread(patterned, to, size, 0) != (ssize_t)size) stop("the pattern cannot be read");
 }
 
 static uint32_t next(void) {
@@ -94,7 +101,7 @@ static void freeze(void) {
   uint32_t *image = (void *)(lent + IMAGE);
   size_t image_len = next();
   if (IMAGE + 4 * image_len > SIZE) stop("too many words");
-  memset(image, PATTERN, SIZE - IMAGE);
+  pattern(image, SIZE - IMAGE);
   CALL(uint32_t, reamstork_freeze(words, len, image, image_len));
 }
 
@@ -104,7 +111,7 @@ static void carry(void) {
   size_t store_len = next();
   uint32_t c = next();
   if (IMAGE + 4 * store_len > SIZE) stop("too many words");
-  memset(store, PATTERN, SIZE - IMAGE);
+  pattern(store, SIZE - IMAGE);
   CALL(uint32_t, reamstork_carry(words, len, store, store_len, c));
 }
 
@@ -115,7 +122,7 @@ static void capture(uint32_t op) {
   size_t out_len = next(), out_shift = next();
   uint8_t *out = (uint8_t *)lent + IMAGE + out_shift;
   if (IMAGE + out_shift + out_len > SIZE) stop("too many bytes");
-  memset(lent + IMAGE, PATTERN, SIZE - IMAGE);
+  pattern(lent + IMAGE, SIZE - IMAGE);
   if (op == CAPTURE_BEGIN) {
     CALL(reamstork_written, reamstork_capture_begin(out, out_len));
     return;
@@ -123,7 +130,7 @@ static void capture(uint32_t op) {
   uint32_t seconds = next(), fraction = next(), original = next();
   size_t size = next(), shift = next();
   if (PACKET + shift + size + 8 > STORE) stop("too many bytes");
-  memset(lent + PACKET, PATTERN, STORE - PACKET);
+  pattern(lent + PACKET, STORE - PACKET);
   uint8_t *data = (uint8_t *)lend(PACKET, (shift + size + 3) / 4) + shift;
   memset(lent + PACKET, PATTERN, shift);
   memset(data + size, PATTERN, 4);
@@ -178,7 +185,7 @@ static void small(uint32_t op) {
 static void fill(void) {
   len = next();
   size_t n = next();
-  memset(lent + STORE, PATTERN, 4 * (len > n ? len : n) + 4096);
+  pattern(lent + STORE, 4 * (len > n ? len : n) + 4096);
   lend(STORE, n);
 }
 
@@ -222,7 +229,10 @@ int main(void) {
   input = room(0, 4 * input_size + 4);
   results = room(0, 4 * (size_t)sizes[1] + 4);
   lent = room(BASE, SIZE);
-  memset(lent, PATTERN, STORE);
+  memset(lent, PATTERN, SIZE);
+  patterned = memfd_create("pattern", 0);
+  if (patterned < 0) stop("no memory");
+  whole(put, patterned, lent, SIZE);
   words = (uint32_t *)(lent + STORE);
   whole(take, 0, (char *)input, 4 * input_size);
   while (at < input_size) run(next());
