@@ -28,7 +28,7 @@ else
 TOOL_ARCHIVE = $(X86)
 endif
 
-.PHONY: help run keep lib tool install uninstall example test soak bench-speed bench-before bench-growth bench-peers bench-stack bench-place bench-cells mutants must-fail edits-list clean kit tools capture
+.PHONY: help run keep lib tool install uninstall example test soak bench-speed bench-lists bench-before bench-growth bench-peers bench-stack bench-place bench-cells mutants must-fail edits-list clean kit tools capture
 # Two provers over one target/ would be in each other's way.
 .NOTPARALLEL:
 .DELETE_ON_ERROR:
@@ -57,6 +57,7 @@ help:
 	@echo 'make test                      prove every crate, try every must-fail edit, run every test'
 	@echo 'make soak [SECONDS_LONG=3600]  the independent second program for as long as you like'
 	@echo 'make bench-speed, bench-stack  figures of docs/TIMING.md'
+	@echo 'make bench-lists               a list of 32 edits beside the same edits singly'
 	@echo 'make bench-growth              how the calls grow from 10 to 512 rules'
 	@echo 'make bench-before EARLIER=old.a    small stores beside an earlier archive of the library'
 	@echo 'make bench-peers               a lookup beside DPDK'"'"'s rte_acl'
@@ -128,6 +129,9 @@ soak: $(X86) tools
 
 bench-speed: $(X86) tools
 	@sh plain/speed.sh $(X86)
+
+bench-lists: $(X86) tools
+	@sh plain/lists.sh $(X86)
 
 bench-growth: $(X86) tools
 	@sh plain/growth.sh $(X86)

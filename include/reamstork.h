@@ -31,8 +31,8 @@
  *    the caller having looked: words damaged in battery-backed memory, or
  *    written by somebody else, are taken like any other.
  *  - What it cannot take it refuses by a number from the table below.
- *    0 means done.  A refusal gives 0 in every other number of its answer
- *    and changes no word.
+ *    0 means done.  A refusal changes no word, and gives 0 in every other
+ *    number of its answer; a refused list of edits alone names a place.
  *  - LOOK AT THE ANSWER FIRST.  The zeros of a refusal are real numbers
  *    too: a table may have a rule 0, and an action 0 is often "drop".
  *    Nothing but the answer tells a refusal from a decision.
@@ -51,13 +51,14 @@
  *    where it is the only one, and `from` to at least `from_len` words;
  *    `packet` points to at least `packet_len` bytes; `low` and `high` point
  *    to six words each; `tallies` points to a reamstork_tallies; `records`
- *    points to at least `count` of reamstork_record; `out` points to at
- *    least `len` bytes and `data` to at least `data_len` bytes.  No pointer
- *    is null, not even with a length or count of 0.
+ *    points to at least `count` of reamstork_record and `edits` to at least
+ *    `count` of reamstork_edit; `out` points to at least `len` bytes and
+ *    `data` to at least `data_len` bytes.  No pointer is null, not even with
+ *    a length or count of 0.
  *  - A call that writes its words (start, start_with, carry, insert,
- *    delete) has them to itself while it runs: no other thread, interrupt
- *    or device reads or writes them, and neither `low` and `high` nor any
- *    word of `from` lie within them.
+ *    delete, edit_list) has them to itself while it runs: no other thread,
+ *    interrupt or device reads or writes them, and neither `low` and `high`
+ *    nor any of `edits` nor any word of `from` lie within them.
  *    freeze has its image to itself in the same way, and it does not
  *    overlap the words.  A call that is lent tallies has these to itself
  *    too, and they lie neither within its words nor within its packet.
@@ -66,7 +67,7 @@
  *  - While a call that only reads its words runs, nobody writes them, its
  *    packet or its records, and the words and the packet do not overlap.
  *    The words of an image are meant as well, and `from`, which carry only
- *    reads.
+ *    reads, and `edits`, which edit_list only reads.
  *    Any number of such calls may run at once over the same words; those
  *    that count have a tally record each.
  *
@@ -171,10 +172,10 @@
  *
  * A lookup touches the cells that it counts and six words besides; this
  * is measured, not proved.  check goes over all cells of the store, and so
- * do insert, delete, read, rule_at, cells, dead, worst, image_words, freeze
- * and carry, which run it first; insert and delete then build the tree anew,
- * carry lays it in the new store, and dead, worst, image_words and freeze
- * go through it.
+ * do insert, delete, edit_list, read, rule_at, cells, dead, worst,
+ * image_words, freeze and carry, which run it first; insert, delete and
+ * edit_list then build the tree anew, once, carry lays it in the new store,
+ * and dead, worst, image_words and freeze go through it.
  *
  * The words of a store are a function of its kind, c, the default's action
  * and the rules.  Two stores with the same of these have the same words, bit
@@ -225,9 +226,9 @@ extern "C" {
  * may be no store of this one: run reamstork_check before the first lookup
  * in them.
  */
-#define REAMSTORK_VERSION          "5.1"
+#define REAMSTORK_VERSION          "5.2"
 #define REAMSTORK_VERSION_MAJOR    5
-#define REAMSTORK_VERSION_MINOR    1
+#define REAMSTORK_VERSION_MINOR    2
 
 /*
  * LIMITS
@@ -240,6 +241,7 @@ extern "C" {
 #define REAMSTORK_DEFAULT_ACTION   0            /* of reamstork_start        */
 #define REAMSTORK_CELLS_MIN        6            /* least c                   */
 #define REAMSTORK_CELLS_MAX        65536        /* greatest c                */
+#define REAMSTORK_LIST_MAX         32           /* edits of a list, at most  */
 #define REAMSTORK_PLACES           513          /* slots of a tally record, not places of rules */
 #define REAMSTORK_UNUSED           4294967295u  /* key of an unused slot     */
 #define REAMSTORK_CAPTURE_HEADER   24           /* bytes in front of the records of a capture */
@@ -303,6 +305,7 @@ extern "C" {
 #define REAMSTORK_TOO_LONG         12  /* capture not accepted, or record too long for one */
 #define REAMSTORK_NO_PLACE         13  /* no slot left in the tally record */
 #define REAMSTORK_CUT              14  /* packet cut short: fewer bytes than its total length */
+#define REAMSTORK_BAD_LIST         15  /* list of edits empty or too long */
 
 typedef struct { uint32_t answer, rule, action, reads; } reamstork_found;
 typedef struct { uint32_t answer, number, action, low[6], high[6]; } reamstork_rule;
@@ -315,11 +318,13 @@ typedef struct { uint32_t number, action, low[6], high[6]; } reamstork_record;
 typedef struct { uint32_t answer, rule, action; } reamstork_winner;
 typedef struct { uint32_t answer, words; } reamstork_size;
 typedef struct { uint32_t answer, bytes; } reamstork_written;
+typedef struct { uint32_t remove, number, action, low[6], high[6]; } reamstork_edit;
+typedef struct { uint32_t answer, place; } reamstork_listed;
 
 /*
  * AN ANSWER AS A TEXT
  *
- * The text that stands beside the number above, for 0 to 14, and for any
+ * The text that stands beside the number above, for 0 to 15, and for any
  * other number "unknown answer".  For people: compare numbers, not texts.
  */
 static inline const char *reamstork_answer(uint32_t answer)
@@ -340,6 +345,7 @@ static inline const char *reamstork_answer(uint32_t answer)
 	case REAMSTORK_TOO_LONG: return "capture not accepted, or record too long for one";
 	case REAMSTORK_NO_PLACE: return "no slot left in the tally record";
 	case REAMSTORK_CUT: return "packet cut short: fewer bytes than its total length";
+	case REAMSTORK_BAD_LIST: return "list of edits empty or too long";
 	default: return "unknown answer";
 	}
 }
@@ -472,6 +478,60 @@ uint32_t reamstork_insert(uint32_t *words, size_t len, uint32_t number, uint32_t
 uint32_t reamstork_delete(uint32_t *words, size_t len, uint32_t number);
 
 /*
+ * EDIT BY A LIST, ALL OR NOTHING
+ *
+ * For a group of rules that is swapped as one.  Of up to REAMSTORK_LIST_MAX
+ * edits, 32, either all are done, in their order, as if given singly, or
+ * none is.
+ *
+ * An edit whose remove is 0 inserts the rule of its number, action, low and
+ * high, as reamstork_insert does.  With any other remove it deletes the rule
+ * of its number, as reamstork_delete does, and its other numbers play no
+ * part.
+ *
+ *  15  count is 0 or above 32; place is 0
+ *   9  the store fails the check; place is 1
+ *   1, 2, 3, 5, 6 for an insert, 1, 4 for a delete
+ *      what the edit is refused with in the table that the edits before it
+ *      in the list leave; place is the edit's place in the list, from 1 on.
+ *      It is the first that is refused: those before it would be done
+ *   0  all are done; place is 0
+ *
+ * in this order.
+ *
+ * Done: the words are, bit for bit, those that the edits leave one by one.
+ * The store passes the check, and every word behind it is as before.
+ * Refused: all words are as before, and none is written, neither for the
+ * edits before the one that is refused nor to write them back.  Changes no
+ * edit in any case.  With a count above 32 no edit is read.
+ *
+ * Each edit is taken in the table that it meets, so the order counts.  Where
+ * a list deletes first, what it deletes makes room: it may be done where the
+ * same edits in another order are refused with 5 or 6.  A number that was
+ * deleted can be inserted again, so a rule is changed by a delete and an
+ * insert of its number.  A rule that the list itself has inserted can be
+ * deleted by it.
+ *
+ * A crew takes rules 10 and 11 out and puts another rule 10 in:
+ *
+ *     const reamstork_edit group[] = {
+ *         { .remove = 1, .number = 10 },
+ *         { .remove = 1, .number = 11 },
+ *         { .number = 10, .action = 2, .low = { ... }, .high = { ... } },
+ *     };
+ *     reamstork_listed l = reamstork_edit_list(words, len, group, 3);
+ *
+ *     if (l.answer != REAMSTORK_DONE)
+ *         printf("edit %u: %s\n", l.place, reamstork_answer(l.answer));
+ *
+ * Each call runs the check once, counts the cells of the table once for each
+ * insert, and then, where all are done, builds the tree once.  Until it
+ * answers the words are nobody else's, as with any edit: where frames flow
+ * meanwhile take two stores, above.
+ */
+reamstork_listed reamstork_edit_list(uint32_t *words, size_t len, const reamstork_edit *edits, size_t count);
+
+/*
  * CHECK A STORE
  *
  *   0  the words are those of a store: word 2 is 4 for a large one or 0 for
@@ -482,9 +542,9 @@ uint32_t reamstork_delete(uint32_t *words, size_t len, uint32_t number);
  *      laid as docs/STORE.md has it and in no other way
  *   9  otherwise
  *
- * Every store that an accepted start, carrying, insert or delete leaves
- * passes.  Changes no word.  insert, delete, read, rule_at, cells, dead,
- * worst, image_words, freeze and carry run it first.
+ * Every store that an accepted start, carrying, insert, delete or list of
+ * edits leaves passes.  Changes no word.  insert, delete, edit_list, read,
+ * rule_at, cells, dead, worst, image_words, freeze and carry run it first.
  *
  * The check cannot see a change that makes the words another store, such
  * as another action, or another number that leaves the numbers rising.

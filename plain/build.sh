@@ -1,4 +1,4 @@
-# The beginning of speed.sh, peers.sh, stack.sh and place.sh, which read it: compiles plain C and
+# The beginning of speed.sh, lists.sh, peers.sh, stack.sh and place.sh, which read it: compiles plain C and
 # the program $program.c, $flags added to what both are compiled with.
 #
 #     sh plain/$program.sh ARCHIVE

@@ -1,5 +1,5 @@
-# A part of speed.sh, before.sh and growth.sh, which read it: counts the instructions of
-# each call by callgrind.  Wants $dir, with the program speed in it.
+# A part of speed.sh, before.sh, growth.sh and lists.sh, which read it: counts the
+# instructions of each call by callgrind.  Wants $dir, with the program speed in it.
 
 have_valgrind() {
 	command -v valgrind >/dev/null 2>&1 && return
@@ -7,14 +7,15 @@ have_valgrind() {
 	return 1
 }
 
-# counted SAMPLE: makes $dir/arcs, a line "caller callee calls instructions" for each
-# function that calls another, with what the callee and all below it took for it; and
-# $dir/what, the rules, the cells in use, and the reads and blocks of the worst packets.
-# The sample is drawn beforehand, since valgrind would take long for it.
+# counted SAMPLE [COMMAND]: makes $dir/arcs, a line "caller callee calls instructions" for
+# each function that calls another, with what the callee and all below it took for it, over
+# what speed does for the command, which is counts where none is named; and $dir/what, what
+# it prints: of counts the rules, the cells in use, and the reads and blocks of the worst
+# packets.  The sample is drawn beforehand, since valgrind would take long for it.
 counted() {
 	"$dir/speed" draw "$1" "$dir/sample"
 	if ! valgrind --tool=callgrind --compress-strings=no --callgrind-out-file="$dir/callgrind" \
-		"$dir/speed" counts "$dir/sample" >"$dir/what" 2>"$dir/err"; then
+		"$dir/speed" "${2:-counts}" "$dir/sample" >"$dir/what" 2>"$dir/err"; then
 		cat "$dir/err" >&2
 		echo "  valgrind fails here: nothing is counted"
 		return 1

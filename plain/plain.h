@@ -18,6 +18,7 @@ uint32_t plain_start_with(uint32_t *words, size_t len, uint32_t c, uint32_t acti
 uint32_t plain_carry(const uint32_t *from, size_t from_len, uint32_t *words, size_t len, uint32_t c);
 uint32_t plain_insert(uint32_t *words, size_t len, uint32_t number, uint32_t action, const uint32_t low[6], const uint32_t high[6]);
 uint32_t plain_delete(uint32_t *words, size_t len, uint32_t number);
+reamstork_listed plain_edit_list(uint32_t *words, size_t len, const reamstork_edit *edits, size_t count);
 uint32_t plain_check(const uint32_t *words, size_t len);
 reamstork_rule plain_read(const uint32_t *words, size_t len, uint32_t number);
 reamstork_rule plain_rule_at(const uint32_t *words, size_t len, uint32_t place);

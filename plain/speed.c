@@ -4,8 +4,10 @@
  *     speed NAME..          times over the samples of these names, as tables
  *     speed lookups NAME..  those of lookups alone
  *     speed growth NAME..   a line of times for each, for growth.sh
+ *     speed lists NAME..    those of a list of edits beside the same edits singly
  *     speed draw NAME FILE  draws a sample once, for
- *     speed counts FILE     each call over it, for callgrind: see counts.awk
+ *     speed counts FILE     each call over it, for callgrind: see counts.sh
+ *     speed list FILE       a list of edits and the same singly, for callgrind
  *
  * Both run in turns over the same words, with the same rules and packets,
  * so that neither has better memory or a quieter moment.  A figure is the
@@ -37,6 +39,7 @@ struct library {
 	uint32_t (*carry)(const uint32_t *, size_t, uint32_t *, size_t, uint32_t);
 	uint32_t (*insert)(uint32_t *, size_t, uint32_t, uint32_t, const uint32_t *, const uint32_t *);
 	uint32_t (*delete)(uint32_t *, size_t, uint32_t);
+	reamstork_listed (*edit_list)(uint32_t *, size_t, const reamstork_edit *, size_t);
 	uint32_t (*check)(const uint32_t *, size_t);
 	reamstork_life (*dead)(const uint32_t *, size_t, uint32_t);
 	reamstork_most (*worst)(const uint32_t *, size_t);
@@ -92,13 +95,13 @@ static reamstork_found earlier_image_tally(const uint32_t *w, size_t l, const ui
 #endif
 
 static const struct library both[2] = {
-	{ reamstork_carry, reamstork_insert, reamstork_delete, reamstork_check, reamstork_dead, reamstork_worst, reamstork_lookup, reamstork_lookup_packet, reamstork_lookup_packet_tally, reamstork_scan,
+	{ reamstork_carry, reamstork_insert, reamstork_delete, reamstork_edit_list, reamstork_check, reamstork_dead, reamstork_worst, reamstork_lookup, reamstork_lookup_packet, reamstork_lookup_packet_tally, reamstork_scan,
 	  reamstork_image_words, reamstork_freeze, reamstork_image_check, reamstork_image_worst, reamstork_image_lookup, reamstork_image_lookup_packet, reamstork_image_lookup_packet_tally },
 #ifdef EARLIER
-	{ NULL, earlier_insert, earlier_delete, earlier_check, earlier_dead, earlier_worst, earlier_lookup, earlier_lookup_packet, earlier_tally, earlier_scan,
+	{ NULL, earlier_insert, earlier_delete, NULL, earlier_check, earlier_dead, earlier_worst, earlier_lookup, earlier_lookup_packet, earlier_tally, earlier_scan,
 	  earlier_image_words, earlier_freeze, earlier_image_check, earlier_image_worst, earlier_image_lookup, earlier_image_lookup_packet, earlier_image_tally },
 #else
-	{ plain_carry, plain_insert, plain_delete, plain_check, plain_dead, plain_worst, plain_lookup, plain_lookup_packet, plain_lookup_packet_tally, plain_scan,
+	{ plain_carry, plain_insert, plain_delete, plain_edit_list, plain_check, plain_dead, plain_worst, plain_lookup, plain_lookup_packet, plain_lookup_packet_tally, plain_scan,
 	  plain_image_words, plain_freeze, plain_image_check, plain_image_worst, plain_image_lookup, plain_image_lookup_packet, plain_image_lookup_packet_tally },
 #endif
 };
@@ -142,6 +145,7 @@ static _Alignas(64) uint32_t tiny[REAMSTORK_WORDS(REAMSTORK_CELLS_MIN)];
 static _Alignas(64) uint32_t image[IMAGE_MOST], second[IMAGE_MOST];
 static _Alignas(64) uint32_t tiny_image[TINY_MOST];
 static struct rule rules[RULES];
+static reamstork_edit edits_of_list[REAMSTORK_LIST_MAX];
 static _Alignas(64) reamstork_record records[RULES];
 static uint32_t values[PACKETS][REAMSTORK_FIELDS];
 static uint8_t packets[PACKETS][28];
@@ -182,6 +186,7 @@ static void fail(const char *why)
 enum subject { STORE, IMAGE, LIST };
 
 #define INLINE inline __attribute__((always_inline))
+#define APART __attribute__((noinline, noclone))
 
 /* The subject is a constant wherever this stands, so that it costs nothing. */
 static INLINE uint32_t decided(const struct library *l, enum subject by, const uint32_t *v)
@@ -365,6 +370,40 @@ static void inserts(const struct library *l, double *took)
 
 	edits(l, both_kinds);
 	took[0] = both_kinds[0];
+}
+
+/* The longest list, as one. */
+static void list(const struct library *l, double *took)
+{
+	int times = often();
+	double from = now();
+
+	for (int i = 0; i < times; i++)
+		if (l->edit_list(words, len, edits_of_list, REAMSTORK_LIST_MAX).answer != 0)
+			fail("a list is refused");
+	took[0] = (now() - from) / times;
+}
+
+/* Its edits one by one; says whether one is refused.  Callgrind tells its calls apart. */
+APART static uint32_t one_by_one(const struct library *l)
+{
+	uint32_t wrong = 0;
+
+	for (int i = 0; i < REAMSTORK_LIST_MAX; i++) {
+		const reamstork_edit *e = &edits_of_list[i];
+
+		wrong |= e->remove ? l->delete(words, len, e->number) : l->insert(words, len, e->number, e->action, e->low, e->high);
+	}
+	return wrong;
+}
+
+static void singly(const struct library *l, double *took)
+{
+	double from = now();
+
+	if (one_by_one(l) != 0)
+		fail("an edit is refused");
+	took[0] = now() - from;
 }
 
 /* Carries the table into a large store of as many cells. */
@@ -809,6 +848,29 @@ static void times(const char *name, int lookups_alone)
 	fflush(stdout);
 }
 
+/* What a list costs, beside its edits singly and beside a check. */
+static void list_times(const char *name)
+{
+	static const char *const singly_name = "the 32 edits singly";
+
+	draw_sample(name);
+	full_list(edits_of_list, rules, rule_count);
+	memcpy(carried, words, sizeof words);
+	for (int which = 0; which < 2; which++) {
+		reamstork_listed l = both[which].edit_list(words, len, edits_of_list, REAMSTORK_LIST_MAX);
+
+		if (l.answer != 0 || l.place != 0 || memcmp(words, carried, sizeof words) != 0)
+			fail("a list leaves other words");
+	}
+	printf("%s: %u rules in a %s store, c = %u, %u cells in use\n", name, rule_count, is_small ? "small" : "large", words[0], plain_cells(words, len).cells);
+	printf("  %-24s %12s    %12s    %8s\n", "", "library", OTHER_NAME, "ratio");
+	measure(singly, 1, &singly_name);
+	measure_over(list, check, "a list of them", "the list, over a check");
+	measure_over(list, singly, NULL, "the list, over singly");
+	printf("\n");
+	fflush(stdout);
+}
+
 /* One line of a sample: what it is, then for each call the library's time, and the ratio to that of plain C. */
 static void grow(const char *name)
 {
@@ -843,8 +905,6 @@ static void grow(const char *name)
 	printf("\n");
 	fflush(stdout);
 }
-
-#define APART __attribute__((noinline, noclone))
 
 /*
  * For callgrind, which keeps what each caller's calls of a function cost:
@@ -925,6 +985,21 @@ static int counts(const char *file)
 	return 0;
 }
 
+APART static uint32_t count_list(const struct library *l)
+{
+	return l->check(words, len) | l->edit_list(words, len, edits_of_list, REAMSTORK_LIST_MAX).answer;
+}
+
+static int list_counts(const char *file)
+{
+	load_sample(file);
+	full_list(edits_of_list, rules, rule_count);
+	for (int which = 0; which < 2; which++)
+		if ((count_list(&both[which]) | one_by_one(&both[which])) != 0)
+			fail("an edit is refused");
+	return 0;
+}
+
 int main(int argc, char **argv)
 {
 	memset(other, 1, sizeof other);
@@ -934,6 +1009,13 @@ int main(int argc, char **argv)
 	}
 	if (argc == 3 && strcmp(argv[1], "counts") == 0)
 		return counts(argv[2]);
+	if (argc == 3 && strcmp(argv[1], "list") == 0)
+		return list_counts(argv[2]);
+	if (argc > 2 && strcmp(argv[1], "lists") == 0) {
+		for (int i = 2; i < argc; i++)
+			list_times(argv[i]);
+		return 0;
+	}
 	if (argc > 2 && strcmp(argv[1], "growth") == 0) {
 		for (int i = 2; i < argc; i++)
 			grow(argv[i]);

@@ -23,6 +23,7 @@ static uint32_t image[REAMSTORK_IMAGE_WORDS_MOST(CELLS)];
 static size_t image_len;
 static struct rule rules[REAMSTORK_RULES_MAX];
 static uint32_t rule_count;
+static reamstork_edit edits[REAMSTORK_LIST_MAX];
 static uint32_t values[REAMSTORK_FIELDS];
 static uint8_t packet[28];
 static reamstork_tallies tallies;
@@ -97,6 +98,11 @@ static void put_in(void)
 	const struct rule *r = &rules[20];
 
 	answer |= reamstork_insert(words, len, r->number, r->action, r->low, r->high);
+}
+
+static void edit_list(void)
+{
+	answer |= reamstork_edit_list(words, len, edits, REAMSTORK_LIST_MAX).answer;
 }
 
 static void check(void)
@@ -245,6 +251,7 @@ static void all(int small, uint32_t n, uint32_t budget)
 	most = 0;
 	rule_count = n;
 	len = draw_table(words, small, CELLS, rules, n, budget, 1);
+	full_list(edits, rules, n);
 	draw_values(values, rules, n);
 	write_packet(packet, values);
 	reamstork_tallies_clear(&tallies);
@@ -255,6 +262,7 @@ static void all(int small, uint32_t n, uint32_t budget)
 	say("reamstork_carry", used(carry));
 	say("reamstork_insert", b);
 	say("reamstork_delete", a);
+	say("reamstork_edit_list", used(edit_list));
 	say("reamstork_check", used(check));
 	say("reamstork_read", used(read_one));
 	say("reamstork_rule_at", used(rule_at));

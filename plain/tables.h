@@ -129,6 +129,34 @@ static size_t draw_table(uint32_t *words, int small, uint32_t c, struct rule *ru
 	return len;
 }
 
+static inline reamstork_edit edit_of(const struct rule *r, uint32_t remove)
+{
+	reamstork_edit e = { .remove = remove, .number = r->number, .action = r->action };
+
+	for (int f = 0; f < REAMSTORK_FIELDS; f++) {
+		e.low[f] = r->low[f];
+		e.high[f] = r->high[f];
+	}
+	return e;
+}
+
+/*
+ * The longest list of edits, which leaves a table of n rules as it is: a
+ * group of up to 16 of them, from all over the table, goes and comes again,
+ * and so on until the list is full.
+ */
+static inline void full_list(reamstork_edit edits[REAMSTORK_LIST_MAX], const struct rule *rules, uint32_t n)
+{
+	for (uint32_t at = 0, group; at < REAMSTORK_LIST_MAX; at += 2 * group) {
+		group = (REAMSTORK_LIST_MAX - at) / 2;
+		group = group < n ? group : n;
+		for (uint32_t i = 0; i < group; i++) {
+			edits[at + i] = edit_of(&rules[i * n / group], 1);
+			edits[at + group + i] = edit_of(&rules[i * n / group], 0);
+		}
+	}
+}
+
 /* Values of TCP or UDP packets with ports that some rule holds, or any others within 10.0.0.0. */
 static void draw_values(uint32_t v[REAMSTORK_FIELDS], const struct rule *rules, uint32_t n)
 {

@@ -12,9 +12,10 @@ from array import array
 from pathlib import Path
 
 from loads import (BASE, CAPTURE_ADD, CAPTURE_BEGIN, CARRY, CELLS, CHECK, CLEAR, DEAD, DELETE,
-                   DIFFERENCE, FILL, FREEZE, GET, IMAGE_CHECK, IMAGE_LOOKUP, IMAGE_PACKET,
-                   IMAGE_TALLY, IMAGE_WORDS, IMAGE_WORST, INSERT, LOOKUP, LOOKUP_PACKET,
-                   LOOKUP_TALLY, PREFIX, READ, RULE_AT, SCAN, START, START_WITH, WORST, Call)
+                   DIFFERENCE, EDIT_LIST, FILL, FREEZE, GET, IMAGE_CHECK, IMAGE_LOOKUP,
+                   IMAGE_PACKET, IMAGE_TALLY, IMAGE_WORDS, IMAGE_WORST, INSERT, LOOKUP,
+                   LOOKUP_PACKET, LOOKUP_TALLY, PREFIX, READ, RULE_AT, SCAN, START, START_WITH,
+                   WORST, Call)
 from reference import PLACES
 
 ROOT = Path(__file__).resolve().parent.parent
@@ -27,7 +28,7 @@ GIVEN = {START: 1, START_WITH: 1, CARRY: 1, INSERT: 1, DELETE: 1, CHECK: 1, READ
          LOOKUP_PACKET: 4, LOOKUP_TALLY: 4 + 3 * PLACES, SCAN: 3, PREFIX: 3, CLEAR: 0,
          DIFFERENCE: 1, IMAGE_WORDS: 2, FREEZE: 1, IMAGE_CHECK: 1, IMAGE_LOOKUP: 4,
          IMAGE_PACKET: 4, IMAGE_TALLY: 4 + 3 * PLACES, IMAGE_WORST: 8, CAPTURE_BEGIN: 2,
-         CAPTURE_ADD: 2}
+         CAPTURE_ADD: 2, EDIT_LIST: 2}
 # else valgrind leaves out a load whose value is not used, and on Arm no atomic store succeeds
 EVERY = ('--vex-iropt-level=0', *['--sim-hints=fallback-llsc'] * ARM)
 # the C library copies by instructions that a trace has one line for, not one for each byte
@@ -99,6 +100,10 @@ class Script:
 
     def insert(self, rule):
         self.call(INSERT, rule.number, rule.action, lent=(*rule.low, *rule.high))
+
+    def edit_list(self, edits):
+        words = [x for edit in edits for x in (*edit[:3], *edit.low, *edit.high)]
+        self.call(EDIT_LIST, len(edits), lent=words, count=len(edits))
 
     def bytes(self):
         return array('I', [len(self.input), self.given]).tobytes() + self.input.tobytes()

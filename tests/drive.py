@@ -16,8 +16,8 @@ from reference import PLACES
 
 RESET, MAKE, LEND, SET, GET, DIGEST, SAME, COPY, HOLDS = range(9)
 (START, START_WITH, INSERT, DELETE, CHECK, READ, CELLS, LOOKUP, PACKET, PREFIX, SCAN,
- RULE_AT, DEAD, WORST, CARRY) = range(16, 31)
-TALLY, CLEAR, DIFFERENCE, RECORDS = range(32, 36)
+ RULE_AT, DEAD, WORST, CARRY, EDIT_LIST) = range(16, 32)
+TALLY, CLEAR, DIFFERENCE, RECORDS, LIST_FAR = range(32, 37)
 (IMAGE_WORDS, FREEZE, IMAGE_CHECK, IMAGE_LOOKUP, IMAGE_PACKET, IMAGE_TALLY,
  IMAGE_WORST) = range(40, 47)
 CAPTURE_BEGIN, CAPTURE_ADD, CAPTURE_FAR = range(48, 51)
@@ -29,6 +29,7 @@ NAMES = {RESET: 'reset', MAKE: 'make', LEND: 'lend', SET: 'set', GET: 'get', DIG
          PACKET: 'lookup_packet', PREFIX: 'prefix', SCAN: 'scan', RULE_AT: 'rule_at',
          DEAD: 'dead', WORST: 'worst', TALLY: 'lookup_packet_tally',
          CLEAR: 'tallies_clear', DIFFERENCE: 'tally_difference', RECORDS: 'scan of records',
+         EDIT_LIST: 'edit_list', LIST_FAR: 'edit_list of edits that are not there',
          IMAGE_WORDS: 'image_words', FREEZE: 'freeze', IMAGE_CHECK: 'image_check',
          IMAGE_LOOKUP: 'image_lookup', IMAGE_PACKET: 'image_lookup_packet',
          IMAGE_TALLY: 'image_lookup_packet_tally', IMAGE_WORST: 'image_worst',
@@ -37,9 +38,10 @@ NAMES = {RESET: 'reset', MAKE: 'make', LEND: 'lend', SET: 'set', GET: 'get', DIG
 SIZES = {RESET: 0, MAKE: 0, LEND: 0, SET: 0, DIGEST: 2, SAME: 1, COPY: 0, HOLDS: 0, CARRY: 1,
          START: 1, START_WITH: 1, INSERT: 1, DELETE: 1, CHECK: 1, READ: 15, CELLS: 2, LOOKUP: 4,
          PACKET: 4, PREFIX: 3, SCAN: 66, RULE_AT: 15, DEAD: 8, WORST: 8, TALLY: 4 + RECORD,
-         CLEAR: RECORD, DIFFERENCE: 1, RECORDS: 3, IMAGE_WORDS: 2, FREEZE: 1, IMAGE_CHECK: 1,
+         CLEAR: RECORD, DIFFERENCE: 1, RECORDS: 3, EDIT_LIST: 2, LIST_FAR: 2, IMAGE_WORDS: 2,
+         FREEZE: 1, IMAGE_CHECK: 1,
          IMAGE_LOOKUP: 4, IMAGE_PACKET: 4, IMAGE_TALLY: 4 + RECORD, IMAGE_WORST: 8, CAPTURE_FAR: 6}
-EDITS = (MAKE, LEND, SET, COPY, HOLDS, CARRY, START, START_WITH, INSERT, DELETE, FREEZE)
+EDITS = (MAKE, LEND, SET, COPY, HOLDS, CARRY, START, START_WITH, INSERT, DELETE, EDIT_LIST, FREEZE)
 INTO_ANOTHER = (COPY, FREEZE, CARRY)  # these write the second of two stores
 GUARDED, END_AT_WALL, FRONT_AT_WALL = range(3)
 NO_DIFFERENCE = 0xFFFFFFFF
@@ -57,7 +59,8 @@ FAULTS = {1: 'a guard word in front of the store was written',
           11: 'a refused call wrote a byte of the output',
           12: 'a byte behind those that were written was changed',
           13: 'the data of a record was changed',
-          14: 'more bytes were written than were lent'}
+          14: 'more bytes were written than were lent',
+          15: 'the edits of a list were changed'}
 
 HEAD = struct.Struct('<7I')
 PACKERS = {n: struct.Struct('<%dI' % n) for n in [*range(1, 68), RECORD, 4 + RECORD]}
@@ -193,6 +196,17 @@ class Talk:
     def delete(self, store, number, want=None):
         self.queue_command(DELETE, (store, number), want)
 
+    def edit_list(self, store, edits, want=None):
+        """`want` is the answer and the place."""
+        words = array('I')
+        for edit in edits:
+            words.extend((edit.remove, edit.number, edit.action) + edit.low + edit.high)
+        self.queue_command(EDIT_LIST, (store, len(edits)), want, tail=words.tobytes())
+
+    def list_far(self, store, count, want=None):
+        """A list of so many edits, none of which can be read."""
+        self.queue_command(LIST_FAR, (store, count % 2 ** 32, count // 2 ** 32), want)
+
     def check(self, store, want=None):
         self.queue_command(CHECK, (store,), want)
 
@@ -313,8 +327,8 @@ class Talk:
             if op in (CAPTURE_BEGIN, CAPTURE_ADD):
                 got = tuple(got)
             at += 4 * size
-            if (START <= op <= PREFIX or op in (RULE_AT, DEAD, WORST, CARRY, TALLY, RECORDS)
-                    or op >= IMAGE_WORDS):
+            if (START <= op <= PREFIX or op in (RULE_AT, DEAD, WORST, CARRY, EDIT_LIST, TALLY,
+                                                RECORDS) or op >= IMAGE_WORDS):
                 self.answers[got[0]] += 1
             if want is None:
                 answers.append(got)
@@ -357,6 +371,10 @@ def spell(op, numbers, tail):
     text = '%s(%s)' % (NAMES[op], ', '.join(map(str, numbers)))
     if op == CAPTURE_ADD:
         return text + ' data ' + tail[:numbers[7]][:80].hex()
+    if op == EDIT_LIST:
+        words = array('I', tail)
+        return text + ''.join('\n    edit %d: %s' % (place // 15 + 1, ' '.join(
+            map(str, words[place:place + 15]))) for place in range(0, len(words), 15)[:33])
     if tail and op in (PACKET, IMAGE_PACKET):
         text += ' bytes ' + tail[:numbers[1]][:80].hex()
     elif op in (TALLY, IMAGE_TALLY):

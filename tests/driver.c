@@ -11,16 +11,16 @@
    - every word of a store against a copy, after each call that may not
      write and after each refused edit;
    - the words behind the lent slice, and those behind the store inside it,
-     after each accepted start, edit or carrying;
-   - the bytes of a packet, the ends of a rule and the records of a list, lent
-     for reading.
+     after each accepted start, edit, list of edits or carrying;
+   - the bytes of a packet, the ends of a rule, the records of a list and the
+     edits of one, lent for reading.
    The words of an image are kept like a store's: every word of it is seen to
    after each call that reads it and after each refused freeze, and after an
    accepted one those behind the total that the command says.
    A store can be laid against memory that can't be read at all, at its
-   front or at its end, and a packet, a list of records and a tally record
-   always end against such memory, so that a read outside them ends the
-   program. In front of a tally record stand guard words.
+   front or at its end, and a packet, a list of records, a list of edits and a
+   tally record always end against such memory, so that a read outside them
+   ends the program. In front of a tally record stand guard words.
    The bytes that a capture is written into end against such memory, or have
    guard bytes behind them, and have guard bytes in front. Every one of them is
    seen to after a refused call, and after another one those behind the bytes
@@ -52,8 +52,8 @@ enum {
   RESET = 0, MAKE = 1, LEND = 2, SET = 3, GET = 4, DIGEST = 5, SAME = 6, COPY = 7, HOLDS = 8,
   START = 16, START_WITH = 17, INSERT = 18, DELETE = 19, CHECK = 20, READ = 21,
   CELLS = 22, LOOKUP = 23, PACKET = 24, PREFIX = 25, SCAN = 26, RULE_AT = 27, DEAD = 28,
-  WORST = 29, CARRY = 30,
-  TALLY = 32, CLEAR = 33, DIFFERENCE = 34, RECORDS = 35,
+  WORST = 29, CARRY = 30, EDIT_LIST = 31,
+  TALLY = 32, CLEAR = 33, DIFFERENCE = 34, RECORDS = 35, LIST_FAR = 36,
   IMAGE_WORDS = 40, FREEZE = 41, IMAGE_CHECK = 42, IMAGE_LOOKUP = 43, IMAGE_PACKET = 44,
   IMAGE_TALLY = 45, IMAGE_WORST = 46,
   CAPTURE_BEGIN = 48, CAPTURE_ADD = 49, CAPTURE_FAR = 50
@@ -67,7 +67,7 @@ enum {
   GUARD_IN_FRONT = 1, GUARD_BEHIND = 2, READER_WROTE = 3, REFUSED_EDIT_WROTE = 4,
   WROTE_BEHIND = 5, PACKET_WRITTEN = 6, ENDS_WRITTEN = 7, GUARD_OF_RECORD = 8,
   RECORDS_WRITTEN = 9, GUARD_OF_OUTPUT = 10, REFUSED_WROTE = 11, OUTPUT_BEHIND = 12, DATA_WRITTEN = 13,
-  MORE_THAN_LENT = 14
+  MORE_THAN_LENT = 14, EDITS_WRITTEN = 15
 };
 
 struct store {
@@ -435,6 +435,37 @@ static void call_carry(void) {
   after_edit(s, answer);
 }
 
+static void give_listed(struct store *s, reamstork_listed listed) {
+  after_edit(s, listed.answer);
+  give_one(listed.place);
+}
+
+/* A list of edits, 15 words each, which ends where the packets end. */
+static void call_edit_list(void) {
+  struct store *s = next_store();
+  size_t count = next(), size = count * sizeof(reamstork_edit);
+  if (size > 2 * BLOCK) stop("too many edits");
+  const uint32_t *numbers = next_many(15 * count);
+  void *edits = packet_end - size;
+  memcpy(edits, numbers, size);
+  compare_late(s);
+  give_listed(s, reamstork_edit_list(s->words, s->lent, edits, count));
+  if (memcmp(edits, numbers, size)) fault(EDITS_WRITTEN, s, 0);
+}
+
+/* So many edits that none of them is read, a count in two words, the lower one first: they begin where
+   nothing can be read. */
+static void call_list_far(void) {
+  struct store *s = next_store();
+  size_t count = next();
+  count += (size_t)next() << 32;
+  void *edits = mmap(NULL, BLOCK, PROT_NONE, MAP_PRIVATE | MAP_ANONYMOUS, -1, 0);
+  if (edits == MAP_FAILED) stop("no memory");
+  compare_late(s);
+  give_listed(s, reamstork_edit_list(s->words, s->lent, edits, count));
+  munmap(edits, BLOCK);
+}
+
 static void call_prefix(void) {
   uint32_t address = next();
   reamstork_range range = reamstork_prefix(address, next());
@@ -581,6 +612,8 @@ static void run_batch(void) {
     else if (op == RECORDS) call_records();
     else if (op == FREEZE) call_freeze();
     else if (op == CARRY) call_carry();
+    else if (op == EDIT_LIST) call_edit_list();
+    else if (op == LIST_FAR) call_list_far();
     else if (op == CAPTURE_BEGIN) call_begin();
     else if (op == CAPTURE_ADD) call_add();
     else if (op == CAPTURE_FAR) call_far();

@@ -1,4 +1,4 @@
-/* What the header has beside the calls: the names of the fields, the texts of the answers, a rule that was read handed to a scan and to an insert, and a table listed and loaded again; its examples of packets that are refused; rules that never win; the worst packet of a table, and of its image; the image; small stores, and a table carried from one; and captures written.
+/* What the header has beside the calls: the names of the fields, the texts of the answers, a rule that was read handed to a scan and to an insert, and a table listed and loaded again; its examples of packets that are refused; rules that never win; the worst packet of a table, and of its image; the image; small stores, and a table carried from one; lists of edits; and captures written.
 
        face answers      a line for each answer, number and text
        face version      the version, and the same from its two numbers
@@ -449,6 +449,98 @@ static int kinds(void) {
   return 0;
 }
 
+static int same_listed(reamstork_listed l, uint32_t answer, uint32_t place) {
+  return l.answer == answer && l.place == place;
+}
+
+/* A group of rules swapped as one, as the header tells of it, in a large store and in a small one. */
+static int lists(uint32_t *words, size_t words_len) {
+  static uint32_t before[REAMSTORK_WORDS(100)], singly[REAMSTORK_WORDS(100)];
+  static reamstork_edit many[REAMSTORK_LIST_MAX + 1], kept[REAMSTORK_LIST_MAX + 1];
+  const reamstork_edit ten = { .number = 10, .action = 2, .low = { 10, 20, 17, 40, 50, 0 }, .high = { 15, 26, 17, 48, 59, 0 } };
+  const reamstork_edit host = { .number = 11, .action = 3, .low = { [REAMSTORK_DESTINATION] = 99 }, .high = {
+    [REAMSTORK_DESTINATION] = 99, [REAMSTORK_SOURCE] = REAMSTORK_TOP_ADDRESS, [REAMSTORK_PROTOCOL] = REAMSTORK_TOP_PROTOCOL,
+    [REAMSTORK_DESTINATION_PORT] = REAMSTORK_TOP_PORT, [REAMSTORK_SOURCE_PORT] = REAMSTORK_TOP_PORT, [REAMSTORK_PORTLESS] = REAMSTORK_TOP_PORTLESS } };
+  reamstork_edit other = host, group[3] = { { .remove = 1, .number = 10 }, { .remove = 1, .number = 11 } };
+  const size_t size = words_len * sizeof *words;
+
+  SURE(sizeof(reamstork_edit) == 60 && offsetof(reamstork_edit, remove) == 0 && offsetof(reamstork_edit, number) == 4 && offsetof(reamstork_edit, action) == 8);
+  SURE(offsetof(reamstork_edit, low) == 12 && offsetof(reamstork_edit, high) == 36);
+  SURE(sizeof(reamstork_listed) == 8 && offsetof(reamstork_listed, answer) == 0 && offsetof(reamstork_listed, place) == 4);
+  SURE(REAMSTORK_LIST_MAX == 32 && REAMSTORK_BAD_LIST == 15);
+
+  /* two rules by one list: the words that two inserts leave */
+  memcpy(singly, words, size);
+  SURE(reamstork_insert(singly, words_len, 11, 3, host.low, host.high) == REAMSTORK_DONE && reamstork_insert(singly, words_len, 10, 2, ten.low, ten.high) == REAMSTORK_DONE);
+  many[0] = host, many[1] = ten;
+  SURE(same_listed(reamstork_edit_list(words, words_len, many, 2), REAMSTORK_DONE, 0) && memcmp(words, singly, size) == 0);
+
+  /* the header's group: two rules go, another 10 comes */
+  memcpy(before, words, size);
+  other.number = 10;
+  group[2] = other;
+  SURE(same_listed(reamstork_edit_list(words, words_len, group, 3), REAMSTORK_DONE, 0));
+  SURE(reamstork_check(words, words_len) == REAMSTORK_DONE && reamstork_cells(words, words_len).cells == 18);
+  SURE(reamstork_lookup(words, words_len, 99, 0, 0, 0, 0, 0).rule == 10 && reamstork_lookup(words, words_len, 10, 20, 17, 40, 50, 0).rule == REAMSTORK_DEFAULT);
+  SURE(same_listed(reamstork_edit_list(words, words_len, (reamstork_edit[]){ group[0], host, ten }, 3), REAMSTORK_DONE, 0) && memcmp(words, before, size) == 0);
+
+  /* the place of the first that is refused, and its number; no word is written */
+  SURE(same_listed(reamstork_edit_list(words, words_len, (reamstork_edit[]){ group[0], ten, group[1], group[1] }, 4), REAMSTORK_NO_SUCH_NUMBER, 4));
+  SURE(same_listed(reamstork_edit_list(words, words_len, (reamstork_edit[]){ group[0], ten, host }, 3), REAMSTORK_NUMBER_TAKEN, 3));
+  SURE(same_listed(reamstork_edit_list(words, words_len, (reamstork_edit[]){ group[0], { .remove = UINT32_MAX, .number = REAMSTORK_DEFAULT } }, 2), REAMSTORK_BAD_NUMBER, 2));
+  SURE(same_listed(reamstork_edit_list(words, words_len, (reamstork_edit[]){ { .number = REAMSTORK_DEFAULT } }, 1), REAMSTORK_BAD_NUMBER, 1));
+  other = ten, other.number = 12, other.high[REAMSTORK_PORTLESS] = REAMSTORK_TOP_PORTLESS;
+  SURE(same_listed(reamstork_edit_list(words, words_len, (reamstork_edit[]){ group[0], group[1], other }, 3), REAMSTORK_BAD_RANGE, 3));
+
+  /* what a list deletes makes room for what it inserts, and not the other way round */
+  other = ten, other.number = 12, other.low[REAMSTORK_SOURCE] = 21, other.high[REAMSTORK_SOURCE] = 30;
+  other.low[REAMSTORK_DESTINATION] = 12, other.high[REAMSTORK_DESTINATION] = 19;
+  SURE(same_listed(reamstork_edit_list(words, words_len, (reamstork_edit[]){ group[1], other, group[0] }, 3), REAMSTORK_NO_ROOM, 2));
+  SURE(memcmp(words, before, size) == 0);
+  SURE(same_listed(reamstork_edit_list(words, words_len, (reamstork_edit[]){ group[1], group[0], other }, 3), REAMSTORK_DONE, 0));
+  SURE(reamstork_delete(words, words_len, 12) == REAMSTORK_DONE && same_listed(reamstork_edit_list(words, words_len, many, 2), REAMSTORK_DONE, 0));
+  SURE(memcmp(words, before, size) == 0);
+
+  /* 15 for none and for 33, before 9; 32 are taken, each rule by the list's own delete gone again; no edit is written */
+  for (uint32_t i = 0; i <= REAMSTORK_LIST_MAX; i++)
+    many[i] = host, many[i].number = 20, many[i].remove = i % 2;
+  memcpy(kept, many, sizeof many);
+  SURE(same_listed(reamstork_edit_list(words, words_len, many, REAMSTORK_LIST_MAX + 1), REAMSTORK_BAD_LIST, 0));
+  SURE(same_listed(reamstork_edit_list(words, words_len, many, 0), REAMSTORK_BAD_LIST, 0));
+  SURE(same_listed(reamstork_edit_list(words, words_len - 1, many, 0), REAMSTORK_BAD_LIST, 0));
+  SURE(same_listed(reamstork_edit_list(words, words_len - 1, many, 2), REAMSTORK_BAD_STORE, 1));
+  SURE(same_listed(reamstork_edit_list(words, words_len - 1, group + 2, 1), REAMSTORK_BAD_STORE, 1));
+  SURE(same_listed(reamstork_edit_list(words, words_len, many, REAMSTORK_LIST_MAX), REAMSTORK_DONE, 0));
+  SURE(memcmp(words, before, size) == 0 && memcmp(many, kept, sizeof many) == 0);
+  words[2] ^= 1;
+  SURE(same_listed(reamstork_edit_list(words, words_len, many, 2), REAMSTORK_BAD_STORE, 1) && same_listed(reamstork_edit_list(words, words_len, many, 33), REAMSTORK_BAD_LIST, 0));
+  words[2] ^= 1;
+  SURE(memcmp(words, before, size) == 0);
+
+  /* to the limit of the kind, and 5 behind it */
+  uint32_t most = words[2] == REAMSTORK_SMALL ? REAMSTORK_SMALL_RULES_MAX : REAMSTORK_RULES_MAX, n = 2;
+  while (n < most) {
+    size_t count = 0;
+    for (; count < REAMSTORK_LIST_MAX && n < most; n++, count++)
+      many[count] = host, many[count].number = 1000 + n;
+    SURE(same_listed(reamstork_edit_list(words, words_len, many, count), REAMSTORK_DONE, 0));
+  }
+  many[0] = group[0], many[1] = ten, many[2] = host, many[2].number = 7;
+  SURE(same_listed(reamstork_edit_list(words, words_len, many, 3), REAMSTORK_TABLE_FULL, 3));
+  many[1] = many[2];
+  SURE(same_listed(reamstork_edit_list(words, words_len, many, 2), REAMSTORK_DONE, 0));
+  SURE(reamstork_rule_at(words, words_len, 1).number == 7 && reamstork_rule_at(words, words_len, most).number == 1000 + most - 1 && reamstork_check(words, words_len) == REAMSTORK_DONE);
+  return 0;
+}
+
+static int lists_of_both(void) {
+  static uint32_t kept[REAMSTORK_SMALL_WORDS(100)];
+
+  SURE(reamstork_start_with(one, len, 100, 8) == REAMSTORK_DONE);
+  small(kept, 100, 8);
+  return lists(one, len) || lists(kept, REAMSTORK_SMALL_WORDS(100));
+}
+
 /* Captures are written as the header tells of it, and its loop keeps the packets of one action. */
 static int captures(void) {
   static uint8_t file[REAMSTORK_CAPTURE_HEADER + 4 * (REAMSTORK_RECORD_HEADER + 28)], before[sizeof file], longest[REAMSTORK_RECORD_MOST + 1], large[REAMSTORK_RECORD_HEADER + REAMSTORK_RECORD_MOST];
@@ -520,7 +612,7 @@ int main(int argc, char **argv) {
   const char *what = argc > 1 ? argv[1] : "";
 
   if (strcmp(what, "answers") == 0) {
-    for (uint32_t n = 0; n <= 15; n++) printf("%u %s\n", (unsigned)n, reamstork_answer(n));
+    for (uint32_t n = 0; n <= 16; n++) printf("%u %s\n", (unsigned)n, reamstork_answer(n));
     printf("4294967295 %s\n", reamstork_answer(UINT32_MAX));
     return 0;
   }
@@ -528,5 +620,5 @@ int main(int argc, char **argv) {
     printf("%s\n%d.%d\n", REAMSTORK_VERSION, REAMSTORK_VERSION_MAJOR, REAMSTORK_VERSION_MINOR);
     return 0;
   }
-  return rules() || packets() || lives() || worsts() || depths() || images() || kinds() || captures();
+  return rules() || packets() || lives() || worsts() || depths() || images() || kinds() || lists_of_both() || captures();
 }

@@ -3,7 +3,7 @@
 from drive import Disagreement
 from edits import one_edit
 from laid import BEGIN, HEAD, KIND, MARK, ROW, account_in, kind_of, link_of
-from reference import (DEFAULT, KINDS, LEAST_CELLS, SMALL, TOPS, Account, Rule, default_rule,
+from reference import (DEFAULT, KINDS, LEAST_CELLS, SMALL, TOPS, Account, Edit, Rule, default_rule,
                        read_header, words_needed)
 from store import HOWS, Store, expect, fresh
 from tables import World, random_packet, values_above, values_near
@@ -148,12 +148,13 @@ def judge(results, asked, lent):
 
 
 def hostile_edits(talk, rng, store, world, table, want):
-    """Edits over a store that fails the check, a freeze of it and its carrying: 9, and no word
-    changed."""
+    """Edits over a store that fails the check, a list of them, a freeze of it and its carrying: 9,
+    and no word changed."""
     talk.insert(store, world.rule(), want)
     talk.insert(store, world.bad_rule([rule.number for rule in table]), want)
     talk.delete(store, rng.choice(table).number, want)
     talk.delete(store, rng.choice((65535, 65536, rng.randrange(65535))), want)
+    talk.edit_list(store, [Edit(rng.randrange(2), *world.rule())] * rng.randint(1, 32), (want, 1))
     talk.freeze(store, talk.make(rng.choice((0, 1120, 3000)), rng.choice(HOWS)), 0, want)
     talk.stores -= 1
     talk.carry(store, talk.make(rng.choice((0, 1120, 8240, 9000)), rng.choice(HOWS)),

@@ -31,6 +31,9 @@ from hostile import garbage, hostile, hostile_large, mazes
 from limits import (any_words_before, bench_table, every_length, five_hundred_twelve, full_tables,
                     kinds, order_of_refusals, rows_of_a_walk, seven_before_nine, sizes_of_a_walk,
                     starts)
+from lists import (list_crowded, list_damage, list_full, list_groups, list_hostile, list_lengths,
+                   list_own, list_refusals, list_removes, list_room, list_swap, list_walls,
+                   list_worlds)
 from packets import BenchProgram, captures, every_prefix, header_grid, headers, prefixes
 from portless import (most_reads, port_rule, port_rule_damage, port_tables, request_example,
                       who_has_ports)
@@ -48,16 +51,20 @@ FIXED = [bench_table, starts, any_words_before, every_length, sizes_of_a_walk, r
          worst_sixty_four, worst_damage, frozen_examples, frozen_deep, frozen_worst, frozen_lengths,
          frozen_refusals, frozen_pokes, frozen_most, frozen_orders, frozen_cycles,
          frozen_four_levels, carry_bench, carry_refusals, carry_full, carry_limits, written_by_hand,
-         written_lengths, written_numbers, written_far]
+         written_lengths, written_numbers, written_far, list_swap, list_room, list_own,
+         list_lengths, list_refusals, list_removes, list_full, list_crowded, list_walls,
+         list_damage]
 
 # In this order again and again; the costly ones come seldom.
 RANDOM = [edits, hostile, fit, headers, frozen_worlds, carry_worlds, carry_hostile, edits,
+          list_worlds, list_hostile, list_groups,
           histories, hostile, garbage, edits, frozen_hostile, crowd, fit, histories, hostile,
           prefixes, edits, headers, large, hostile, histories, hostile_large, mazes, mazes,
           tallies, differences, tallies, hostile_tallies, lists, frozen_mazes, frozen_worlds,
           beside, port_tables, port_rule_damage, port_tables, cuts, many, hidden, hidden_worlds,
           hidden, hidden, worst_tables, worst_worlds, worst_tables, worst_alike, frozen_hostile,
-          frozen_alike, carry_worlds, carry_hostile, written_files]
+          frozen_alike, carry_worlds, carry_hostile, written_files, list_worlds, list_worlds,
+          list_groups, list_hostile]
 
 
 class Run:

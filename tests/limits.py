@@ -5,7 +5,7 @@ from image import image_walk
 from laid import HEAD, MARK, ROW, laid
 from packets import BENCH_LOOKUPS, address, bench_values
 from reference import (BENCH_RULES, DEFAULT, KINDS, LARGE, MOST_CELLS, PORTLESS, PORTS, SMALL, TOPS,
-                       Account, Rule, words_needed)
+                       Account, Edit, Rule, words_needed)
 from store import HOWS, Store, expect, fresh
 from tables import CHOICES, World, packet_of, values_near
 from walk import walk
@@ -184,6 +184,10 @@ def lengths_of(talk, kind, n, lengths):
         talk.packet(store.id, readable[:19], (7, 0, 0, 0))
         talk.delete(store.id, 65535, 1 if good else 9)
         talk.insert(store.id, Rule(7, 9, *FULL), 3 if good else 9)
+        again = [Edit(1, 7, 0, *FULL), Edit(0, 7, 9, *FULL), Edit(0, 8, 9, *FULL), Edit(1, 8, 0, *FULL)]
+        talk.edit_list(store.id, again, (0, 0) if good else (9, 1))
+        talk.edit_list(store.id, again[1:], (3, 1) if good else (9, 1))
+        talk.edit_list(store.id, [], (15, 0))
     talk.flush()
     # The same with nothing readable behind the slice.
     for length in [*range(12), *range(kind.front - 14, n + 1), 100, 500]:
@@ -200,6 +204,7 @@ def lengths_of(talk, kind, n, lengths):
         talk.packet(walled, readable[:23], (14, 0, 0, 0))
         talk.packet(walled, readable[:19], (7, 0, 0, 0))
         talk.delete(walled, 8, 4 if good else 9)
+        talk.edit_list(walled, again, (0, 0) if good else (9, 1))
         talk.start(walled, 5, 8)
         talk.start(walled, 6, 0 if length >= started else 8)
         talk.flush()
@@ -294,6 +299,7 @@ def kinds(talk, rng):
                 talk.carry(store, other, 2000, 9)
                 talk.insert(store, Rule(8, 9, *FULL), 9)
                 talk.delete(store, 65535, 9)
+                talk.edit_list(store, [Edit(0, 8, 9, *FULL)], (9, 1))
                 found = walk(words, values)
                 expect(mark not in NO_KIND or found[0] == 9, 'the reference and request P9')
                 talk.lookup(store, values, found)
@@ -498,6 +504,9 @@ def seven_before_nine(talk, rng):
                 talk.delete(store, number, 9)
                 talk.insert(store, Rule(number, 1, (9,) * 6, (0,) * 6), 9)
                 talk.insert(store, Rule(number, 1, *PORTS_OF_ALL), 9)
+                for remove in (0, 1):
+                    talk.edit_list(store, [Edit(remove, number, 1, *PORTS_OF_ALL)], (9, 1))
+            talk.edit_list(store, [], (15, 0))
             talk.start(store, 5, 8)
     talk.flush()
 

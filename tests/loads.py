@@ -5,7 +5,7 @@ from collections import Counter, namedtuple
 
 from image import BLOCK, DEEPEST, DOWN, KEYS
 from laid import BEGIN, CELL, FREE, KIND, ROW, kind_of, link_of, row_of
-from reference import LEAST_CELLS, MOST_CELLS, PLACES, read_header, words_needed
+from reference import LEAST_CELLS, MOST_CELLS, MOST_EDITS, PLACES, read_header, words_needed
 
 FRONT_LOADS = (0, 1, KIND)     # what every lookup loads of the head; with them the word where a walk begins
 RULE_LOADS = (0, 1)            # what it loads of that row: number and action
@@ -15,6 +15,7 @@ LINE = 16                      # words of a line of 64 bytes
 LINKS = 3                      # the words of a cell that a search takes: end, next and down
 NEXT = 1                       # the one of them that leads on in a chain
 RECORD = 14                    # words of a record of a list
+EDIT = 15                      # words of an edit of a list
 RULE_ENDS = 12                 # words of a rule's ends, low and high, that an insert is lent
 
 # What a packet's header is read from; with ports the four bytes behind it too.
@@ -24,7 +25,7 @@ HEADER_BYTES = {0, 2, 3, 6, 7, 9, *range(12, 20)}
 (FILL, GET, START, START_WITH, INSERT, DELETE, CHECK, READ, RULE_AT, DEAD, WORST, CELLS, LOOKUP,
  LOOKUP_PACKET, LOOKUP_TALLY, SCAN, PREFIX, CLEAR, DIFFERENCE, IMAGE_WORDS, FREEZE, IMAGE_CHECK,
  IMAGE_LOOKUP, IMAGE_PACKET, IMAGE_TALLY, IMAGE_WORST, CARRY, CAPTURE_BEGIN,
- CAPTURE_ADD) = range(29)
+ CAPTURE_ADD, EDIT_LIST) = range(30)
 # the words of these are an image's
 IMAGE_CALLS = (IMAGE_CHECK, IMAGE_LOOKUP, IMAGE_PACKET, IMAGE_TALLY, IMAGE_WORST)
 BASE, SIZE = 0x300000000, 0x100000
@@ -33,7 +34,7 @@ IMAGE = 0x80000
 STACK = 1 << 20
 
 # A call: what it is asked, the words of the store before it and how many are lent, and what else
-# is lent: a packet, a tally record's words, the number of records.
+# is lent: a packet, a tally record's words, the number of records or edits.
 Call = namedtuple('Call', 'op numbers words len packet tallies count')
 
 
@@ -298,6 +299,40 @@ def see_edit(call, touched, result):
     stored = touched.stored(STORE, call.len)
     expect(bool(stored) == (result[0] == 0), 'with the answer %d it writes %d words of the store',
            result[0], len(stored))
+    if call.op in (INSERT, DELETE) and result[0] == 0:
+        checked['stores'] = max(checked.get('stores', 0), cell_stores(call, stored))
+
+
+def cell_stores(call, stored):
+    """The most stores into one word of a cell."""
+    return max((n for word, n in stored.items() if word >= kind_in(call).front), default=0)
+
+
+def see_list(call, touched, result):
+    """Refused, it writes no word at all; the edits are never written, none behind the last is
+    touched, and where there are none or too many, none is read. The check goes over the cells
+    once, and comes alone before this call over the same words; what decides an edit looks at the
+    rows alone. Done, it writes no word of a cell more often than a single edit does: the tree is
+    dropped once and built once."""
+    taken = result[0] == 0
+    read = call.count if 1 <= call.count <= MOST_EDITS else 0
+    touched.only((STORE, 4 * size_of(call)), (RECORDS, 4 * EDIT * read))
+    expect(not touched.stored(RECORDS, EDIT * read), 'it writes its edits')
+    expect((result[0] == 15) == (read == 0), 'it answers %d to %d edits', result[0], call.count)
+    stored = touched.stored(STORE, call.len)
+    expect(bool(stored) == taken, 'with the answer %d it writes %d words of the store', result[0],
+           len(stored))
+    expect(checked['words'] == list(call.words), 'the check was seen over other words')
+    if taken:
+        most = cell_stores(call, stored)
+        expect(most <= checked['stores'], 'it writes a word of a cell %d times, a single edit %d',
+               most, checked['stores'])
+        return
+    kind = kind_in(call)
+    for word, times in touched.loaded(STORE, call.len).items():
+        most = checked['loads'][word]
+        expect(kind is None or word < kind.front or times <= most,
+               'it loads word %d %d times, and %d are enough', word, times, most)
 
 
 def see_reader(call, touched, result):
@@ -357,8 +392,8 @@ def see_written(call, touched, result):
            differences(loaded, set(range(read))))
 
 
-# The words over which the check was seen last, and how often it loads each of them: that is the
-# compiler's own choice.
+# The words over which the check was seen last, and how often it loads each of them; and how often
+# a single edit writes a word of a cell, at most. Both are the compiler's own choice.
 checked = {}
 
 
@@ -430,5 +465,5 @@ def see(call, touched, result):
          READ: see_reader, RULE_AT: see_reader, DEAD: see_dead, WORST: see_worst,
          CELLS: see_reader, IMAGE_WORDS: see_reader, IMAGE_CHECK: see_image_check,
          IMAGE_WORST: see_image_worst, FREEZE: see_freeze, CARRY: see_carry, IMAGE_PACKET: see_packet,
-         CAPTURE_BEGIN: see_written, CAPTURE_ADD: see_written,
+         CAPTURE_BEGIN: see_written, CAPTURE_ADD: see_written, EDIT_LIST: see_list,
          IMAGE_TALLY: see_tally}.get(call.op, see_edit)(call, touched, result)

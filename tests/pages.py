@@ -27,7 +27,8 @@ PATH = re.compile(r'(?:%s)/[\w./*-]*' % FOLDERS)
 EDIT = re.compile(r'([a-z0-9]+)/([a-z0-9_]+)')
 DECLARED = re.compile(r'^[a-z][a-z0-9_ ]*[ *](reamstork_[a-z_]*)\(.*\);$', re.M)
 COUNTS = {14: 'fourteen', 15: 'fifteen', 16: 'sixteen', 17: 'seventeen', 18: 'eighteen',
-          23: 'twenty-three', 24: 'twenty-four', 25: 'twenty-five', 27: 'twenty-seven'}
+          23: 'twenty-three', 24: 'twenty-four', 25: 'twenty-five', 27: 'twenty-seven',
+          28: 'twenty-eight'}
 NAME = re.compile(r"[A-Za-z][A-Za-z0-9_']*(?:-[A-Za-z0-9']+)*")
 
 

@@ -24,10 +24,14 @@ PLACES = 513
 DONE = 0
 NUMBER_TOO_HIGH, BAD_RANGE, ALREADY_THERE, NOT_THERE, TABLE_FULL, NO_ROOM = 1, 2, 3, 4, 5, 6
 NOT_READABLE, BAD_START, BAD_STORE, BAD_PREFIX, ABOVE_TOP = 7, 8, 9, 10, 11
-NO_PLACE, CUT_SHORT = 13, 14
+NO_PLACE, CUT_SHORT, BAD_LIST = 13, 14, 15
 TOO_SHORT, TOO_LONG = 8, 12  # of what writes a capture: its output, and a record
 
 Rule = namedtuple('Rule', 'number action low high')
+
+# An edit of a list: 0 for `remove` inserts the rule, any other number deletes by number.
+Edit = namedtuple('Edit', 'remove number action low high')
+MOST_EDITS = 32
 
 
 def default_rule(action):
@@ -286,6 +290,21 @@ class Account:
         del self.rules[number]
         return DONE
 
+    def edit(self, edit):
+        """An edit of a list, given singly."""
+        return self.delete(edit.number) if edit.remove else self.insert(*edit[1:])
+
+    def edit_list(self, edits):
+        """(answer, place): all edits in order as if given singly, or nothing, exactly when one of
+        them would have been refused there; then its number and its place, from 1 on."""
+        before = dict(self.rules)
+        for place, edit in enumerate(edits, 1):
+            answer = self.edit(edit)
+            if answer:
+                self.rules = before
+                return (answer, place)
+        return (DONE, 0)
+
     def read(self, number):
         """(answer, number, action, six low ends, six high ends)"""
         if number == DEFAULT:
@@ -358,6 +377,16 @@ class Account:
         if answer:
             return (answer, 0, 0, 0)
         return self.image_lookup(values)
+
+
+def list_answer(account, edits):
+    """(answer, place) of a list of edits, and does them: first of all 15 with place 0 for an empty
+    or longer list, then 9 at place 1 for a store that fails the check, which has no account."""
+    if not 1 <= len(edits) <= MOST_EDITS:
+        return (BAD_LIST, 0)
+    if account is None:
+        return (BAD_STORE, 1)
+    return account.edit_list(edits)
 
 
 # ---- tallies ------------------------------------------------------------

@@ -3,7 +3,7 @@
 import drive
 from drive import Disagreement
 from laid import laid
-from reference import DEFAULT, KINDS, LARGE, Account, words_needed
+from reference import DEFAULT, KINDS, LARGE, Account, list_answer, words_needed
 from tables import values_above, values_near
 
 HOWS = (drive.GUARDED, drive.GUARDED, drive.END_AT_WALL, drive.FRONT_AT_WALL)
@@ -52,6 +52,11 @@ class Store:
     def delete(self, number):
         want = self.account.delete(number)
         self.talk.delete(self.id, number, want)
+        return want
+
+    def edit_list(self, edits):
+        want = list_answer(self.account, edits)
+        self.talk.edit_list(self.id, edits, want)
         return want
 
     def read(self, number):

@@ -36,6 +36,7 @@ from image import image, image_check
 from independent import command_line
 from laid import account_in, laid
 from limits import spare_number
+from lists import listed, puts, takes
 from reference import (DEFAULT, MOST_CELLS, SMALL, TOPS, Account, Rule, Tally, words_needed)
 from store import HOWS, Store, expect
 from tables import World, random_packet, values_near
@@ -156,7 +157,7 @@ def frozen(kept, talk, rng):
 
 def edited(kept, talk, rng):
     """Rules of full ranges, which take no cell, up to the limit; then all rules go, in any order,
-    and come again."""
+    and come again. The same by lists, which go through the limit and back."""
     store = kept.lend(talk, rng)
     own = list(kept.account.rules.values())
     while len(store.account.rules) < 64:
@@ -176,6 +177,19 @@ def edited(kept, talk, rng):
     talk.same(store.id, empty, len(kept.words))
     for rule in rng.sample(own, len(own)):
         expect(store.insert(rule) == 0, 'a rule is refused')
+    kept.same(store)
+    go, come = [takes(rule.number, rng) for rule in own], [puts(rule) for rule in own]
+    for first in range(0, len(own), 16):
+        part = slice(first, first + 16)
+        listed(store, come[part] + go[part], (3, 1))
+        listed(store, go[part] + rng.sample(come[part], len(come[part])), (0, 0))
+        kept.same(store)
+    full = [puts(Rule(n, 5, *FULL)) for n in range(65000, 65064 - len(own))]
+    for first in range(0, len(full), 32):
+        listed(store, full[first:first + 32], (0, 0))
+    listed(store, [puts(Rule(65100, 5, *FULL))], (5, 1))
+    for first in range(0, len(full), 32):
+        listed(store, [takes(edit.number) for edit in full[first:first + 32]], (0, 0))
     kept.same(store)
     world = World(rng)
     for _ in range(10):

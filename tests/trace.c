@@ -25,7 +25,7 @@ enum { ENDS = 0x1000, TALLIES = 0x2000, PACKET = 0x4000, RECORDS = 0x8000, STORE
 enum { FILL, GET, START, START_WITH, INSERT, DELETE, CHECK, READ, RULE_AT, DEAD, WORST, CELLS,
        LOOKUP, LOOKUP_PACKET, LOOKUP_TALLY, SCAN, PREFIX, CLEAR, DIFFERENCE, IMAGE_WORDS, FREEZE,
        IMAGE_CHECK, IMAGE_LOOKUP, IMAGE_PACKET, IMAGE_TALLY, IMAGE_WORST, CARRY, CAPTURE_BEGIN,
-       CAPTURE_ADD };
+       CAPTURE_ADD, EDIT_LIST };
 
 extern char __executable_start, end;
 
@@ -169,6 +169,15 @@ static void scan(void) {
   CALL(reamstork_winner, reamstork_scan(records, count, action, a, b, c, d, e, f));
 }
 
+/* Edits lie where records do, with the pattern behind them. */
+static void edit_list(void) {
+  size_t count = next();
+  memset(lent + RECORDS, PATTERN, STORE - RECORDS);
+  if (RECORDS + count * sizeof(reamstork_edit) > STORE) stop("too many edits");
+  reamstork_edit *edits = lend(RECORDS, 15 * count);
+  CALL(reamstork_listed, reamstork_edit_list(words, len, edits, count));
+}
+
 static void small(uint32_t op) {
   uint32_t a = op == CLEAR ? 0 : next(), b = op == CLEAR ? 0 : next();
   reamstork_tallies *tallies = (void *)(lent + TALLIES);
@@ -200,6 +209,7 @@ static void run(uint32_t op) {
   else if (op == FREEZE) freeze();
   else if (op == CARRY) carry();
   else if (op == CAPTURE_BEGIN || op == CAPTURE_ADD) capture(op);
+  else if (op == EDIT_LIST) edit_list();
   else if (op == SCAN) scan();
   else if (op <= DIFFERENCE) small(op);
   else stop("no such command");

@@ -22,6 +22,10 @@ packets, tally records and lists. Of each call is seen (loads.py):
   ends and one link: 5 + 9 x blocks words. So it touches a line of 64 bytes for each block and at
   most three more. Over damaged words it loads the blocks of the walk, at most 8 in a field, and no
   others. It writes none.
+- A list of edits that is refused writes no word at all, and goes over the cells once, for the
+  check. One that is done writes no word of a cell more often than a single edit does. The edits
+  are never written; none behind the last is touched, and none is read where they are none or more
+  than 32.
 - A freeze writes every word of its image and none behind them; refused, it touches none. So
   does a carrying with its new store, and it writes no word of the old one.
 - A header or a record of a capture writes the bytes that it says and none behind them, and
@@ -51,10 +55,11 @@ from collections import Counter
 from calls import ARCHIVE, Program, Script, cannot
 from image import BLOCK, DOWN, KEYS, image
 from laid import BEGIN, CELL, KIND, kind_of, laid, link_of
+from lists import puts, takes
 from loads import (CAPTURE_ADD, CAPTURE_BEGIN, CARRY, CELLS, CHECK, CLEAR, DEAD, DELETE, DIFFERENCE,
-                   FREEZE, IMAGE_CHECK, IMAGE_LOOKUP, IMAGE_PACKET, IMAGE_TALLY, IMAGE_WORDS,
-                   IMAGE_WORST, INSERT, LOOKUP, LOOKUP_PACKET, LOOKUP_TALLY, PREFIX, READ, RULE_AT,
-                   SCAN, START, START_WITH, WORST, Fault, Touched, see)
+                   EDIT_LIST, FREEZE, IMAGE_CHECK, IMAGE_LOOKUP, IMAGE_PACKET, IMAGE_TALLY,
+                   IMAGE_WORDS, IMAGE_WORST, INSERT, LOOKUP, LOOKUP_PACKET, LOOKUP_TALLY, PREFIX,
+                   READ, RULE_AT, SCAN, START, START_WITH, WORST, Fault, Touched, see)
 from reference import (DEFAULT, KINDS, LARGE, LEAST_CELLS, PLACES, SMALL, TOPS, Rule, count_cells,
                        default_rule, words_needed)
 from tables import World, packet_of, random_packet, values_above, values_near
@@ -63,6 +68,7 @@ from tables import World, packet_of, random_packet, values_above, values_near
 CALLS = {
     START: ('start', {0, 8}), START_WITH: ('start_with', {0, 8}), CARRY: ('carry', {0, 6, 8, 9}),
     INSERT: ('insert', {0, 1, 2, 3, 5, 6, 9}), DELETE: ('delete', {0, 1, 4, 9}),
+    EDIT_LIST: ('edit_list', {0, 1, 2, 3, 4, 5, 6, 9, 15}),
     CHECK: ('check', {0, 9}), READ: ('read', {0, 1, 4, 9}), RULE_AT: ('rule_at', {0, 4, 9}),
     DEAD: ('dead', {0, 1, 4, 9}), WORST: ('worst', {0, 9}), CELLS: ('cells', {0, 9}),
     LOOKUP: ('lookup', {0, 9, 11}), LOOKUP_PACKET: ('lookup_packet', {0, 7, 9, 14}),
@@ -210,6 +216,50 @@ def taken_edits(script, rng, c, rules, words):
         script.call(op, rng.randint(LEAST_CELLS, c), *more)
 
 
+def some_edits(rng, rules):
+    """Edits each of which is done where it stands: rules go, others with full ranges come, and these
+    go again."""
+    own = [rule.number for rule in rules if rule.number != DEFAULT]
+    out = rng.sample(own, min(len(own), rng.choice((0, 1, 4))))
+    spare = [number for number in range(40000, 40100) if number not in own]
+    come = spare[:min(rng.choice((1, 3, 12)), max(len(out), 64 - len(own)))]
+    return ([takes(number, rng) for number in out] + [puts(Rule(n, 7, *FULL)) for n in come]
+            + [takes(number, rng) for number in come[::2]])
+
+
+def one_list(script, words, length, edits):
+    """A list over these words, behind a check of them."""
+    script.fill(words, length)
+    script.call(CHECK)
+    script.edit_list(edits)
+
+
+def bad_lengths(script, words, length, edit):
+    for count in (0, 33, 200):
+        one_list(script, words, length, [edit] * count)
+
+
+def lists(script, rng, rules, words):
+    """Lists that are done, mostly, and such as are refused at some place, each over the same words.
+    A single edit that is done goes before them: a list writes no cell more often."""
+    spare = next(n for n in range(50000, 65535) if all(rule.number != n for rule in rules))
+    more = puts(Rule(spare, 1, *FULL))
+    script.fill(words)
+    if len(rules) > kind_of(words).rules:
+        script.call(DELETE, rules[0].number)
+    else:
+        script.insert(Rule(spare, 1, *FULL))
+    wrong = [puts(Rule(65535, 1, *FULL)), takes(65535), takes(spare),
+             puts(Rule(spare, 1, (1, 0, 0, 0, 0, 0), (0, *TOPS[1:]))),
+             puts(Rule(spare, 1, (0, 0, 0, 0, 1, 0), TOPS)), puts(Rule(rules[0].number, 1, *FULL)),
+             puts(Rule(spare, 1, (1, 1, 1, 1, 1, 0), TOPS[:5] + (0,))), more]
+    good = some_edits(rng, rules)
+    for edits in ([more], [*good, puts(World(rng).rule(spare))],
+                  *(good[:rng.randint(0, len(good))] + [edit] + good for edit in wrong)):
+        one_list(script, words, len(words), edits[:32])
+    bad_lengths(script, words, len(words), more)
+
+
 def carries(script, rules):
     """Into too few words, into too few cells, and into enough: with and without words behind."""
     needed = count_cells(rules, 65536)
@@ -241,6 +291,7 @@ def over_table(script, rng, c, rules, words, whole):
     carries(script, rules)
     refused_edits(script, rng, rules)
     taken_edits(script, rng, c, rules, words)
+    lists(script, rng, rules, words)
 
 
 def over_damage(script, rng, c, rules, words, whole):
@@ -258,6 +309,8 @@ def over_damage(script, rng, c, rules, words, whole):
         carries(script, rules)
         refused_edits(script, rng, rules)
         lookups(script, rng, rules, 1)
+        one_list(script, bad, length, some_edits(rng, rules) or [takes(7)])
+    bad_lengths(script, bad, length, takes(7))
 
 
 def over_maze(script, rng, c, rules, words, whole):

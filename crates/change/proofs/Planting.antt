@@ -71,7 +71,7 @@ module _ (k : Kind) (c : ℕ) (ws : List ℕ) (E : ℕ) (f : E ≡ k .head + row
         → putMid (k .head) (E + (2 + 8 * c) - k .head) ws xs ≡ planted k c n ws
     sets-planted xs h = mid-planted n xs (rw e at h)
 
-front-length : (k : Kind) (sh : Shaped k) (c : ℕ) (t : Table) → length (frontText k c t) ≡ k .head + rowWords k
+pub front-length : (k : Kind) (sh : Shaped k) (c : ℕ) (t : Table) → length (frontText k c t) ≡ k .head + rowWords k
 unfolding frontText
 front-length k sh c t = simp length-append (omega (arith, head-length k sh c (length (t .rules)) [], rows-long k t))
 

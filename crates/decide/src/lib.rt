@@ -24,7 +24,7 @@ fn refuse(answer: u32) -> Decision
 }
 
 // Puts x in at a place among the n first numbers of a set: those from there on move up by one.
-fn put_place(set: &mut [u16], n: usize, at: usize, x: u16)
+pub fn put_place(set: &mut [u16], n: usize, at: usize, x: u16)
     requires { ⌜ (at ≤ n) × (n < length (now set)) ⌝ }
     ensures { λ _. ⌜ take (n + 1) (now (set .exit)) ≡ take at (now (set .entry)) ++ (x ∷ drop at (take n (now (set .entry)))) ⌝ }
 {

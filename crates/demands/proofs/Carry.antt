@@ -20,7 +20,7 @@ use Rattle.demands.proofs.Room.{no-room, room-there}
 use Rattle.demands.proofs.Held.{Leaves, right, checked-0, done-leaves, leaves, start-leaves}
 use Rattle.demands.proofs.KindNamed.{shaped-in, by-pass, pass-in, within-large}
 use Rattle.demands.proofs.Demand1.{line, on-line, check-line, spares}
-use Rattle.demands.proofs.Demand3.{edit-on, stays, same-table, twins, same-front}
+use Rattle.demands.proofs.Demand3.{change-on, stays, same-table, twins, same-front}
 use Rattle.demands.proofs.Frozen.{same-over, same-over-packet}
 
 module _ (old ws : List ℕ) (c : ℕ) where
@@ -82,7 +82,7 @@ module _ (old ws : List ℕ) (c : ℕ) where
 -- HOW A STORE CAME TO BE
 past-passes : (ws : List ℕ) → Past ws → Passes (kindIn ws) ws
 past-passes ws (started b lent c a h) = pass-in b (startWords (ipv4 b) lent c a) (start-leaves (ipv4 b) (ipv4-shaped b) lent c a h .pass)
-past-passes ws (edited {old} p e) = edit-on old e (past-passes old p) .0
+past-passes ws (edited {old} p e) = change-on old e (past-passes old p) .0
 past-passes ws (carried {old} p lent c h) = new-passes old lent c h
 
 pub carry : Carry

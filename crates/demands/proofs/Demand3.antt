@@ -18,12 +18,13 @@ use Rattle.header.specs.declared.Header.the-variants.{Values}
 use Rattle.header.specs.Header.{headerOf}
 use Rattle.header.specs.Facts.{WithinTops, within-tops}
 use Rattle.layout.specs.Store.{size, text, cellsIn, tableOf, unless, startWords, insertSays, deleteSays}
+use Rattle.series.specs.Edits.{inserts, deletes, listSays, listWords}
 use Rattle.lookup.specs.declared.Found.{Found}
 use Rattle.lookup.specs.Walk.{lookupValues, lookupPacket}
 use Rattle.demands.specs.Calls.{Passes, rulesIn, everyIn, fieldCount, valuesIn, Bytes, lookup}
-use Rattle.demands.specs.Demand3.{Edit, inserts, deletes, wordsAfter, run, History, wordsLeft, SameRules, Twins, Reads, Demand3}
+use Rattle.demands.specs.Demand3.{Change, edit, list, changed, run, History, wordsLeft, SameRules, Twins, Reads, Demand3}
 use Rattle.demands.proofs.KindNamed.{shaped-in, by-pass, pass-in, within-large}
-use Rattle.demands.proofs.Held.{Leaves, right, begins-with, refused-keeps, start-leaves, insert-leaves, delete-leaves}
+use Rattle.demands.proofs.Held.{Leaves, right, begins-with, refused-keeps, start-leaves, insert-leaves, delete-leaves, list-leaves}
 use Rattle.lookup.proofs.Steps.{wrong-11}
 use Rattle.demands.proofs.Packets.{tops-right, refused-by, readable-is, by-header}
 use Rattle.demands.proofs.Decided.{foundOf, lookup-is}
@@ -43,15 +44,17 @@ on ws a new l h = by-test (eqb a 0)
     (λ e. let z = l (eqb-true a 0 e) .1 in (pass-in (isLarge ws) _ (z .pass), by-pass (isLarge ws) _ (z .pass), z .cells-left))
     (λ e. rw (refused-keeps a new ws (eqb-false a 0 e)) (h, refl, refl))
 
-pub edit-on : (ws : List ℕ) (e : Edit) → Passes (kindIn ws) ws → On ws (wordsAfter ws e)
-edit-on ws (inserts r) h = on ws (insertSays (kindIn ws) ws r) _ (λ a. (_, insert-leaves (kindIn ws) (shaped-in ws) ws r a)) h
-edit-on ws (deletes n) h = on ws (deleteSays (kindIn ws) ws n) _ (λ a. (_, delete-leaves (kindIn ws) (shaped-in ws) ws n a)) h
+pub change-on : (ws : List ℕ) (e : Change) → Passes (kindIn ws) ws → On ws (changed ws e)
+unfolding listWords
+change-on ws (edit (inserts r)) h = on ws (insertSays (kindIn ws) ws r) _ (λ a. (_, insert-leaves (kindIn ws) (shaped-in ws) ws r a)) h
+change-on ws (edit (deletes n)) h = on ws (deleteSays (kindIn ws) ws n) _ (λ a. (_, delete-leaves (kindIn ws) (shaped-in ws) ws n a)) h
+change-on ws (list es) h = on ws (listSays (kindIn ws) ws es .answer) _ (λ a. (_, list-leaves (kindIn ws) (shaped-in ws) ws es a)) h
 
-run-on : (ws : List ℕ) (es : List Edit) → Passes (kindIn ws) ws → On ws (run ws es)
+run-on : (ws : List ℕ) (es : List Change) → Passes (kindIn ws) ws → On ws (run ws es)
 run-on ws [] h = (h, refl, refl)
 run-on ws (e ∷ es) h =
-    let z = edit-on ws e h in
-    let y = run-on (wordsAfter ws e) es (z .0) in
+    let z = change-on ws e h in
+    let y = run-on (changed ws e) es (z .0) in
     (y .0, y .1 ∙ z .1, y .2 ∙ z .2)
 
 pub stays : (g : History) → Passes (kindIn (wordsLeft g)) (wordsLeft g) × (isLarge (wordsLeft g) ≡ g .large) × (cellsIn (wordsLeft g) ≡ g .cells)

@@ -1,9 +1,9 @@
--- Words that hold a store: the text of a table passes the check and gives the table back; words that pass are the text of their table; and an accepted start, insert or delete leaves such a text, with the same words behind it.
+-- Words that hold a store: the text of a table passes the check and gives the table back; words that pass are the text of their table; and an accepted start, insert, delete or list of edits leaves such a text, with the same words behind it.
 -- Assumes nothing.
 use mathlib.Core.Path.{_≡_, refl, sym, ap, ap₂, _∙_}
 use mathlib.Core.Bool.{Bool, true, false, cond}
 use mathlib.Core.List.{List, [], _++_, append-assoc}
-use Prim.Native.Nat.{ℕ, _+_, _-_, _≤_}
+use Prim.Native.Nat.{ℕ, _+_, _≤_}
 use native.Mathlib.Omega.{arith}
 use lib.ListN.{length, getD, take, drop, length-append, length-drop}
 use lib.Seq.{take-at, drop-at}
@@ -21,6 +21,8 @@ use Rattle.table.specs.Rows.{rowsText, tableIn}
 use Rattle.table.proofs.Edits.{rows-long}
 use Rattle.layout.specs.Named.{stored}
 use Rattle.layout.specs.Store.{size, headText, text, cellsIn, rowsOf, tableOf, roomFor, passes, holding, unless, checked, startAnswer, startWords, insertSays, insertWords, deleteSays, deleteWords, cellsGives}
+use Rattle.series.specs.Edits.{Edit, editedAll, listSays, listWords}
+use Rattle.series.proofs.Taken.{accepted, all-right, all-fits}
 use Rattle.layout.proofs.Words.{round-trip}
 use Rattle.layout.proofs.Bridge.{stored-cells}
 use Rattle.layout.proofs.Parts.{head-length}
@@ -163,3 +165,13 @@ module _ (k : Kind) (s : Shaped k) where
       let p = checked-0 ws (deleteAnswer t n) h .0 in
       rw (done-leaves (deleteSays k ws n) (holding k c (without n t) ws) ws h)
       (leaves ws c (without n t) (room ws p) (delete-within k n t (right ws p)) (omega (arith, delete-fewer k n t, fits ws p)))
+
+  -- AN ACCEPTED LIST OF EDITS
+  pub list-leaves : (ws : List ℕ) (es : List Edit) → listSays k ws es .answer ≡ 0 → Leaves k ws (listWords k ws es) (cellsIn ws) (editedAll (tableOf k ws) es)
+  unfolding listWords
+  list-leaves ws es h =
+      let c = cellsIn ws in
+      let t = tableOf k ws in
+      let a = accepted k ws es h in
+      rw (done-leaves (listSays k ws es .answer) (holding k c (editedAll t es) ws) ws h)
+      (leaves ws c (editedAll t es) (room ws (a .passed)) (all-right k c t es (right ws (a .passed)) (a .taken)) (all-fits k c t es (fits ws (a .passed)) (a .taken)))

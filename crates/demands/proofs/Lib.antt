@@ -32,3 +32,4 @@ pub mod Frozen
 pub mod Deepest
 pub mod Carry
 pub mod Shown
+pub mod AllOrNone

@@ -12,7 +12,7 @@ use Rattle.layout.specs.Store.{size, cellsIn, tableOf, startAnswer, startWords,
 use Rattle.image.specs.Image.{imagePacket}
 use Rattle.demands.specs.Calls.{Passes, rulesIn, defaultIn, NoRoom}
 use Rattle.demands.specs.Demand1.{Refuses, done, Spares}
-use Rattle.demands.specs.Demand3.{Edit, wordsAfter, History, wordsLeft, SameRules, Twins}
+use Rattle.demands.specs.Demand3.{Change, changed, History, wordsLeft, SameRules, Twins}
 use Rattle.demands.specs.Frozen.{imageOf, lookupOver}
 
 -- what the call answers where the table of the store old is to be carried into the words ws, as a store of c cells, and what it leaves in them
@@ -36,10 +36,10 @@ pub record Carried (old : List ℕ) (c : ℕ) (after : List ℕ) : Type 0 where
   pub over : (p : Packet) → lookupOver (imageOf old) p ≡ lookupOver (imageOf after) p
   pub over-packet : (bytes : List ℕ) → imagePacket (imageOf old) bytes ≡ imagePacket (imageOf after) bytes
 
--- HOW A STORE CAME TO BE: it was started, large or, before P9, small; edited, accepted or refused; and carried
+-- HOW A STORE CAME TO BE: it was started, large or, before P9, small; edited, singly or by a list, accepted or refused; and carried
 pub data Past : List ℕ → Type 0 where
   started : (b : Bool) (lent : List ℕ) (c a : ℕ) → startAnswer (ipv4 b) lent c ≡ 0 → Past (startWords (ipv4 b) lent c a)
-  edited : {old : List ℕ} → Past old → (e : Edit) → Past (wordsAfter old e)
+  edited : {old : List ℕ} → Past old → (e : Change) → Past (changed old e)
   carried : {old : List ℕ} → Past old → (lent : List ℕ) (c : ℕ) → answerTo old lent c ≡ 0 → Past (carriedTo old lent c)
 
 pub record Carry : Type 0 where

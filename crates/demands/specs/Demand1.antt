@@ -1,6 +1,6 @@
 -- DEMAND 1. "Every call ends and stays inside what it was lent, for all store words, packet bytes, rules and sizes. No call relies on its caller having looked. What it can't take it refuses by a number from the table; a refused edit changes no word of the store, a refused lookup gives rule 0, action 0 and 0 reads."
 -- Where the first two sentences are shown: in the proof of each function. `rt check` refuses a function that may not end, or that may read or write outside of what it was lent, and no call of the C face has a `requires`. So what is said here of all words, bytes, rules and numbers is said of every call that a program can make.
--- Calls without a store have their own pages: 10, of a prefix, and 12, of a capture, are shown to be exact in prefix/specs/Facts.antt and capture/specs/Accepts.antt, and 11, of a scan, in Scan.antt. Clearing a tally record and the difference of two readings refuse nothing. What is refused where a rule's life or the worst packet of a table is asked for stands in Dead.antt and Worst.antt, and where a table is carried in Carry.antt; of images in Frozen.antt and Deepest.antt. The calls that write captures refuse with 12 and 8: `addAnswer` and `beginAnswer` of writing/specs/Writing.antt.
+-- Calls without a store have their own pages: 10, of a prefix, and 12, of a capture, are shown to be exact in prefix/specs/Facts.antt and capture/specs/Accepts.antt, and 11, of a scan, in Scan.antt. Clearing a tally record and the difference of two readings refuse nothing. What is refused where a rule's life or the worst packet of a table is asked for stands in Dead.antt and Worst.antt, where a table is carried in Carry.antt, and where a list of edits is given, 15 among them, in AllOrNone.antt; of images in Frozen.antt and Deepest.antt. The calls that write captures refuse with 12 and 8: `addAnswer` and `beginAnswer` of writing/specs/Writing.antt.
 -- `Demand1` is what is claimed; proofs/Demand1.antt proves it. Assumes nothing.
 use mathlib.Core.Path.{_≡_}
 use mathlib.Core.Logic.{_⊎_, _≢_}

@@ -13,24 +13,30 @@ use Rattle.header.specs.declared.Packet.{Packet}
 use Rattle.header.specs.declared.Header.the-variants.{Values}
 use Rattle.header.specs.Header.{headerOf}
 use Rattle.header.specs.Facts.{WithinTops}
+use Rattle.series.specs.Edits.{Edit, inserts, deletes, listWords}
 use Rattle.layout.specs.Store.{size, cellsIn, startAnswer, startWords, insertWords, deleteWords, cellsSays, cellsGives}
 use Rattle.lookup.specs.Walk.{lookupPacket}
 use Rattle.tally.specs.declared.Tallies.{Tallies}
 use Rattle.tally.specs.Tally.{tallyAnswer, talliesLeft}
 use Rattle.demands.specs.Calls.{Passes, rulesIn, defaultIn, everyIn, fieldCount, valueAt, lowAt, highAt, HoldsFirst, valuesIn, Bytes, lookup}
 
--- AN EDIT, and the words that it leaves, accepted or refused; a run of edits
-pub data Edit : Type 0 where
-  inserts : Rule → Edit
-  deletes : ℕ → Edit
-
+-- the words that an edit leaves, accepted or refused
 abbrev pub wordsAfter : List ℕ → Edit → List ℕ
 wordsAfter ws (inserts r) = insertWords (kindIn ws) ws r
 wordsAfter ws (deletes n) = deleteWords (kindIn ws) ws n
 
-abbrev pub run : List ℕ → List Edit → List ℕ
+-- A CHANGE is an edit, or by P10 a list of edits; the words that it leaves, accepted or refused; a run of changes. "Demand 3 reads an accepted list as its edits": AllOrNone.antt says that it leaves what these leave.
+pub data Change : Type 0 where
+  edit : Edit → Change
+  list : List Edit → Change
+
+abbrev pub changed : List ℕ → Change → List ℕ
+changed ws (edit e) = wordsAfter ws e
+changed ws (list es) = listWords (kindIn ws) ws es
+
+abbrev pub run : List ℕ → List Change → List ℕ
 run ws [] = ws
-run ws (e ∷ es) = run (wordsAfter ws e) es
+run ws (e ∷ es) = run (changed ws e) es
 
 -- "a fresh store" and a run of edits on it
 pub record History : Type 0 where
@@ -41,8 +47,8 @@ pub record History : Type 0 where
   pub cells : ℕ
   pub action : ℕ
   pub accepted : startAnswer (ipv4 large) lent cells ≡ 0
-  -- the edits, "refused ones among them"
-  pub edits : List Edit
+  -- the edits, "refused ones among them", and lists of edits
+  pub edits : List Change
 
 -- the words that it leaves
 abbrev pub wordsLeft : History → List ℕ

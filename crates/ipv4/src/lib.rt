@@ -17,6 +17,11 @@ pub const SMALL: usize = 455;
 // The same for a large store, of 513 rows.
 pub const LARGE: usize = 3591;
 
+// The rows of a small store, and of a large one: as many places has a set of all rules with the default.
+pub const SMALL_ROWS: usize = 65;
+
+pub const LARGE_ROWS: usize = 513;
+
 // Whether the words, of a store or of an image, name the kind of large stores.
 pub fn is_large(words: &[u32]) -> bool
     ensures { λ r. ⌜ r ≡ isLarge (now (words .entry)) ⌝ }

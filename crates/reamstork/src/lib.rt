@@ -1,11 +1,13 @@
 // The C face of the library, as include/reamstork.h declares it: exported functions and nothing else. Each says, for every input, what it returns and what every lent word then holds.
 ghost use mathlib.Core.Path.{_≡_};
-ghost use mathlib.Core.List.{[], _∷_};
+ghost use mathlib.Core.List.{[], _∷_, map};
 ghost use Rattle.model.specs.Table.{startAction};
 ghost use Rattle.model.specs.Ipv4.{large, kindIn};
 ghost use Rattle.ipv4.specs.Rule.{given};
 ghost use Rattle.prefix.specs.Prefix.{rangeOf};
 ghost use Rattle.layout.specs.Store.{startAnswer, startWords, insertSays, insertWords, deleteSays, deleteWords, readSays, readGives, placeSays, placeGives, cellsSays, cellsGives, carrySays, carryWords};
+ghost use Rattle.series.specs.Edits.{listSays, listWords};
+ghost use Rattle.gather.specs.Gather.{editOf};
 ghost use Rattle.lookup.specs.Walk.{lookupValues, lookupPacket};
 ghost use Rattle.tally.specs.Tally.{tallyAnswer, talliesLeft, cleared, difference};
 ghost use Rattle.scan.specs.Scan.{scanValues};
@@ -18,11 +20,13 @@ ghost use Rattle.writing.specs.Writing.{beginSays, beginLeaves, addSays, addLea
 ghost use Rattle.reamstork.specs.Face.{ruleOf, ruleRead, checkSays};
 use audit::Count;
 use freeze::Size;
+use gather::Edit;
 use ipv4::Rule;
 use live::Life;
 use lookup::Found;
 use prefix::Range;
 use scan::Winner;
+use series::Listed;
 use tally::Tallies;
 use worst::Most;
 use writing::Written;
@@ -79,6 +83,15 @@ pub extern "C" fn reamstork_delete(words: &mut [u32], number: u32) -> u32
     ensures { λ r. ⌜ (r ≡ deleteSays (kindIn (now (words .entry))) (now (words .entry)) number) × (now (words .exit) ≡ deleteWords (kindIn (now (words .entry))) (now (words .entry)) number) ⌝ }
 {
     store::delete(words, number)
+}
+
+// Takes a list of up to 32 edits in order: all of them are done, or none.
+#[no_mangle]
+pub extern "C" fn reamstork_edit_list(words: &mut [u32], edits: &[Edit]) -> Listed
+    ensures { λ r. ⌜ (r ≡ listSays (kindIn (now (words .entry))) (now (words .entry)) (map editOf (now (edits .entry)))) × (now (words .exit) ≡ listWords (kindIn (now (words .entry))) (now (words .entry)) (map editOf (now (edits .entry)))) ⌝ }
+{
+    let list = gather::gather(edits);
+    store::edit_list(words, list)
 }
 
 // The store check: 0 where the store passes, else 9.

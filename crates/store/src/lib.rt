@@ -1,4 +1,4 @@
-// The calls on a store, for the two kinds that there are: word 2 of a store names its kind, and what is started is large. The calls are start, check, insert, delete, read by number and by place, cells in use, and carry. Every promise is one equation for the answer and for every lent word, whatever the words hold.
+// The calls on a store, for the two kinds that there are: word 2 of a store names its kind, and what is started is large. The calls are start, check, insert, delete, a list of edits, read by number and by place, cells in use, and carry. Every promise is one equation for the answer and for every lent word, whatever the words hold.
 //
 // A call has a branch for each kind, with the scratch of that kind: setting it to zeros takes the time that the kind needs. The compiled call's frame has room for the larger one.
 ghost use mathlib.Core.Path.{_≡_};
@@ -8,11 +8,15 @@ ghost use Rattle.model.specs.Table.{front, readRule, placeRule};
 ghost use Rattle.model.specs.Ipv4.{large, kindIn};
 ghost use Rattle.ipv4.specs.Rule.{given};
 ghost use Rattle.table.specs.Rows.{ruleIn};
+ghost use Rattle.gather.specs.Gather.{editsIn};
+ghost use Rattle.series.specs.Edits.{listSays, listWords};
 ghost use Rattle.layout.specs.Inner.{ruleFound};
 ghost use Rattle.layout.specs.Store.{rowsOf, tableOf, passes, startAnswer, startWords, insertSays, insertWords, deleteSays, deleteWords, zeroRule, readSays, readGives, placeSays, placeGives, cellsSays, cellsGives, carrySays, carryWords};
 use audit::Count;
 use audit::Place;
+use gather::Gathered;
 use ipv4::Rule;
+use series::Listed;
 
 // The store check.
 pub fn check(words: &[u32]) -> bool
@@ -97,6 +101,41 @@ pub fn delete(words: &mut [u32], number: u32) -> u32
         number,
         &ipv4::TOPS,
         ipv4::shape(false),
+        &mut sets,
+        &mut ends,
+    )
+}
+
+// Does a list of edits: all of them, or none.
+pub fn edit_list(words: &mut [u32], list: Gathered) -> Listed
+    ensures { λ r. ⌜ (r ≡ listSays (kindIn (now (words .entry))) (now (words .entry)) (editsIn list)) × (now (words .exit) ≡ listWords (kindIn (now (words .entry))) (now (words .entry)) (editsIn list)) ⌝ }
+{
+    let count = list.count;
+    if ipv4::is_large(words) {
+        let mut set = [0u16; ipv4::LARGE_ROWS];
+        let mut sets = [0u16; ipv4::LARGE];
+        let mut ends = [0u32; ipv4::LARGE];
+        return revise::edit_list(
+            words,
+            &list.words,
+            count,
+            &ipv4::TOPS,
+            ipv4::shape(true),
+            &mut set,
+            &mut sets,
+            &mut ends,
+        );
+    }
+    let mut set = [0u16; ipv4::SMALL_ROWS];
+    let mut sets = [0u16; ipv4::SMALL];
+    let mut ends = [0u32; ipv4::SMALL];
+    revise::edit_list(
+        words,
+        &list.words,
+        count,
+        &ipv4::TOPS,
+        ipv4::shape(false),
+        &mut set,
         &mut sets,
         &mut ends,
     )

@@ -102,7 +102,7 @@ module _ (k : Kind) (t : Table) (r : Rule) (p : ℕ) (e : p ≡ suc (ahead (r .n
       rw (le-ltb (w * q + j) (w * p + w) (omega (arith, row-ends w p q y)), x, f) (rows-at k t (q - 1) j (omega arith) v ∙ ap (λ x. rowWord x j) (sym (placed-behind q (q - 1) y s)))))))
 
 -- TAKING OUT. In rising order the rule of the number n, if it stands, is the first that is not ahead of n.
-first-or-later : (n b : ℕ) (x : Rule) (rs : List Rule) → risingFrom b (x ∷ rs) ≡ true → stands n (x ∷ rs) ≡ true
+pub first-or-later : (n b : ℕ) (x : Rule) (rs : List Rule) → risingFrom b (x ∷ rs) ≡ true → stands n (x ∷ rs) ≡ true
     → ((x .number ≡ n) × (removed n rs ≡ rs)) ⊎ ((x .number < n) × (stands n rs ≡ true))
 first-or-later n b x rs h s = by-test (eqb (x .number) n)
     (λ t. let e = eqb-true (x .number) n t in inl (e, removed-none n rs (λ r m q. omega (arith, in-rising (suc (x .number)) rs (rises b x rs h .2) r m .0))))

@@ -26,12 +26,12 @@ module _ (x : ℕ) where
   ahead-all [] = omega arith
   ahead-all (r ∷ rs) = one-more (ltb (r .number) x) _ _ (ahead-all rs)
 
-  ahead-most : (rs : List Rule) (i : ℕ) → x ≤ getD rs i noRule .number → ahead x rs ≤ i
+  pub ahead-most : (rs : List Rule) (i : ℕ) → x ≤ getD rs i noRule .number → ahead x rs ≤ i
   ahead-most [] i h = omega arith
   ahead-most (r ∷ rs) zero h = rw (le-ltb (r .number) x h) (omega arith)
   ahead-most (r ∷ rs) (suc i) h = one-more (ltb (r .number) x) _ i (ahead-most rs i h)
 
-  ahead-least : (b : ℕ) (rs : List Rule) (i : ℕ) → risingFrom b rs ≡ true → i < length rs → getD rs i noRule .number < x → (b < x) × (i < ahead x rs)
+  pub ahead-least : (b : ℕ) (rs : List Rule) (i : ℕ) → risingFrom b rs ≡ true → i < length rs → getD rs i noRule .number < x → (b < x) × (i < ahead x rs)
   ahead-least b [] i up l h = absurd (omega arith)
   ahead-least b (r ∷ rs) zero up l h = (omega (arith, rises b r rs up .0), rw (lt-ltb (r .number) x h) (omega arith))
   ahead-least b (r ∷ rs) (suc i) up l h =

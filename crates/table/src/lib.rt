@@ -21,7 +21,7 @@ pub struct Shape {
 }
 
 // The word at a place of the rows; behind the last one 0.
-fn word(rows: &[u32], i: usize) -> u32
+pub fn word(rows: &[u32], i: usize) -> u32
     ensures { λ r. ⌜ r ≡ getD (now (rows .entry)) i 0 ⌝ }
 {
     if i < rows.len() { rows[i] } else { 0 }

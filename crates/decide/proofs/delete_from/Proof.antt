@@ -4,8 +4,8 @@ use borrow.Author.Needs.{needs}
 use borrow.Author.Tests.{not-true, not-false}
 use mathlib.Core.Path.{sym, _∙_}
 use native.Mathlib.Omega.{arith}
-use Rattle.table.specs.Rows.{kindOf}
-use Rattle.decide.proofs.Answers.{from-1, from-4, from-0}
+use Rattle.table.specs.Rows.{kindOf, tableIn}
+use Rattle.decide.proofs.Answers.{gone-1, gone-4, gone-0}
 use Rattle.decide.proofs.delete_from.Statement.{statement}
 use Rattle.decide.proofs.delete_from.Tie as tie
 
@@ -19,7 +19,7 @@ delete-from-spec =
     let s = c .before .before .before .before in
     let a = s .args in
     let e = c .refuse .ensures .0 in
-    (e ∙ from-1 (kindOf (a .tops .now) (a .shape)) (a .n) (a .number) (a .rows .now) (s .pre) (c .before .if1 .taken), λ z. absurd (omega (arith, e, z))))
+    (e ∙ gone-1 (a .number) (tableIn (kindOf (a .tops .now) (a .shape)) (a .n) (a .rows .now)) (c .before .if1 .taken), λ z. absurd (omega (arith, e, z))))
     (λ c κs. search needs)
     (λ c κs. search needs)
     (λ c κs. search needs)
@@ -28,9 +28,9 @@ delete-from-spec =
     let s = c .before .before .before .before .before .before .before in
     let a = s .args in
     let e = c .refuse2 .ensures .0 in
-    (e ∙ from-4 (kindOf (a .tops .now) (a .shape)) (a .n) (a .number) (a .rows .now) (s .pre) (c .before .before .before .before .if1 .left) (sym (c .before .before .stands-behind .ensures) ∙ not-true _ (c .before .if2 .taken)), λ z. absurd (omega (arith, e, z))))
+    (e ∙ gone-4 (a .number) (tableIn (kindOf (a .tops .now) (a .shape)) (a .n) (a .rows .now)) (c .before .before .before .before .if1 .left) (sym (c .before .before .stands-behind .ensures) ∙ not-true _ (c .before .if2 .taken)), λ z. absurd (omega (arith, e, z))))
     -- it does
     (λ c.
     let s = c .before .before .before .before .before .before in
     let a = s .args in
-    (from-0 (kindOf (a .tops .now) (a .shape)) (a .n) (a .number) (a .rows .now) (s .pre) (c .before .before .before .if1 .left) (sym (c .before .stands-behind .ensures) ∙ not-false _ (c .if2 .left)), λ z. c .before .before .before2 .ensures .0)))
+    (gone-0 (a .number) (tableIn (kindOf (a .tops .now) (a .shape)) (a .n) (a .rows .now)) (c .before .before .before .if1 .left) (sym (c .before .stands-behind .ensures) ∙ not-false _ (c .if2 .left)), λ z. c .before .before .before2 .ensures .0)))

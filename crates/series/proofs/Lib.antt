@@ -1,0 +1,4 @@
+pub mod Sets
+pub mod Moves
+pub mod Decided
+pub mod Taken
