@@ -239,8 +239,10 @@ def alone(words, limit):
 
 
 def unwrapped(out):
-    """What was printed, with the line below an error, where a long sentence goes on, behind it."""
-    return re.sub(r'(?m)^(.*\berror: .*)\n +(?! |expected type|but this has type|computed as far)', r'\1 ', out)
+    """What was printed, with the line below an error, where a long sentence goes on, behind it. A
+    line that begins a sentence of its own stays."""
+    own = ' |expected type|but this has type|computed as far|on the face'
+    return re.sub(r'(?m)^(.*\berror: .*)\n +(?!%s)' % own, r'\1 ', out)
 
 
 def first_error(out):
