@@ -68,6 +68,20 @@ def random_capture(rng):
     return bytes(capture)
 
 
+def of_action(records, action):
+    """The records whose packets get this action."""
+    account = bench_account()
+    return [record for record in records if account.lookup_packet(record[3])[::2] == (0, action)]
+
+
+def records_of_each(rng, count):
+    """So many records, of each action at least one."""
+    while True:
+        records = some_records(rng, count, False)
+        if all(of_action(records, action) for action in ACTIONS):
+            return records
+
+
 class Keep:
     def __init__(self, options, readers):
         self.command, self.readers, self.verdict = options.keep, readers, readers.verdict
@@ -135,14 +149,11 @@ class Keep:
 
     def tools(self, rng):
         """What is written for an input in either order, by other readers."""
-        account = bench_account()
         for order in ORDERS:
-            records = some_records(rng, 300, False)
+            records = records_of_each(rng, 300)
             for action in ACTIONS:
                 out = self.see(in_order(records, order), action, '300 records, ' + order)
-                mine = [record for record in records
-                        if account.lookup_packet(record[3])[::2] == (0, action)]
-                self.verdict(mine, 'no packet has action %d' % action)
+                mine = of_action(records, action)
                 self.readers.see(out, mine, 'what keep wrote, action %d, %s' % (action, order))
             out = self.see(in_order(records, order), 1, '300 records, ' + order)
             self.readers.see(out, [], 'what keep wrote for no packet')
