@@ -2,17 +2,20 @@
 
 Most of what a change costs is the same for all changes of a crate, so several are tried in
 one copy of it. A function is proved from the contracts of those that it calls, so an
-error in its own proof comes from its own change alone. Where a change is in the body of
-one function, that function is put beside itself under another name, with its contract
-and its proof, and the change is made there; one that calls itself calls itself there too.
+error in its own proof comes from its own change alone. Where a change is in one function,
+that function is put beside itself under another name, with its contract and its proof, and
+the change is made there; one that calls itself calls itself there too.
 Functions that call each other in a ring, that C calls or that are walked by hand are changed
-where they stand, those together of which none calls another. What is not refused so is to be
-tried in a copy of its own.
+where they stand, those together of which none calls another. Where a change is in one file of
+definitions, that file is put beside itself under another name, with every file of definitions
+and of laws that stands on it: an error in one of these is the change's own. What is not refused
+so is to be tried in a copy of its own.
 
 A change is an object with
     function(functions)     the one function that it is in, or nothing
     wrong(functions, name)  that function as the change has it, from its head on
-and, where it can be in a function that stands only where it is,
+    definitions()           the one file of definitions that it is in, or nothing
+and, where it can be in such a file or in a function that stands only where it is,
     texts(others)           the crate's changed files, {name: text}, over those that are
                             changed already
 and raises Bad where it cannot be made.
@@ -34,7 +37,7 @@ class Functions:
     """The functions of a crate: where their bodies are, and which ones they call."""
 
     def __init__(self, crate, file):
-        self.crate, self.file = crate, file
+        self.crate, self.file, self.laws = crate, file, Laws(crate)
         source = Source((ROOT / 'crates' / crate / file).read_text())
         self.text, words = source.text, source.words
         names = {f.name for f in source.functions}
@@ -48,10 +51,16 @@ class Functions:
                 found.update(*[self.reached[name] for name in found])
 
     def around(self, text):
-        """The function whose body has this text, or nothing."""
+        """The function that has this text in its contract or its body, or in the comment behind
+        it, where that is changed where it stands; or nothing."""
         at = self.text.find(text)
-        return next((name for name, (first, last) in self.bodies.items()
-                     if first <= at and at + len(text) <= last), None)
+        for name, (_, last) in self.bodies.items():
+            first = re.search(r'(?m)^.*\bfn %s\(' % name, self.text).start()
+            if self.head(name) is None:
+                last = re.compile(r'(?:\s|//.*)*').match(self.text, last).end()
+            if first <= at and at + len(text) <= last:
+                return name
+        return None
 
     def whole(self, name):
         """The function's text, from its head on."""
@@ -78,11 +87,14 @@ class Functions:
         return None
 
     def beside(self, group):
-        """The files of the crate with each function of the group, {new name: change}, as its
-        change has it, beside itself."""
+        """The files of the crate with each function and each file of definitions of the group,
+        {new name: change}, as its change has it, beside itself."""
         texts = {self.file: self.text}
         for new, change in group.items():
             name = change.function(self)
+            if not name:
+                texts.update(self.laws.beside(change, new, texts))
+                continue
             text = change.wrong(self, name)
             texts[self.file] += '\n' + re.sub(r'(?<!::)\b%s\(' % name, new + '(', text) + '\n'
             for path in self.proofs(name):
@@ -103,8 +115,8 @@ class Functions:
         made, alone, many = [], [], {}
         for change in changes:
             name = change.function(self)
-            if name and self.head(name) is not None:
-                many['%s_w%d' % (name, len(many))] = change
+            if name and self.head(name) is not None or self.laws.above(change.definitions()):
+                many['%s_w%d' % (name or change.definitions(), len(many))] = change
                 continue
             free = [group for group in made if name and self.apart(name, group)]
             if free:
@@ -113,6 +125,44 @@ class Functions:
                 (made if name else alone).append({name: change})
         many, copies = list(many.items()), -(-len(many) // MOST)
         return made + alone + [dict(many[i::copies]) for i in range(copies)]
+
+
+class Laws:
+    """The files of definitions and of laws of a crate, and which ones stand on which."""
+
+    def __init__(self, crate):
+        self.crate, self.folder, self.texts, self.on = crate, ROOT / 'crates' / crate, {}, {}
+        for part in ('specs', 'proofs'):
+            for path in (self.folder / part).glob('*.antt'):
+                self.texts[part, path.stem] = path.read_text()
+        for module, text in self.texts.items():
+            self.on[module] = set(re.findall(r'Rattle·%s·(?:specs|proofs)\.(specs|proofs)\.(\w+)' % crate, text))
+
+    def above(self, name):
+        """The file of definitions and all files that stand on it, where there are laws among
+        them; else nothing."""
+        found, more = set(), {('specs', name)} & self.texts.keys()
+        while more:
+            found |= more
+            more = {module for module, on in self.on.items() if on & found} - found
+        return found if any(part == 'proofs' for part, _ in found) else set()
+
+    def beside(self, change, new, others):
+        """The files with all these once more, under names that end as the new one."""
+        name = change.definitions()
+        found, end = self.above(name), new[len(name):]
+        texts = {}
+        changed = change.texts()['specs/%s.antt' % name]
+        for part, stem in sorted(found):
+            text = changed if (part, stem) == ('specs', name) else self.texts[part, stem]
+            for other, below in found:
+                text = re.sub(r'(Rattle\.%s\.%s\.%s)(?![\w-])' % (self.crate, other, other, below),
+                              r'\g<1>' + end, text)
+            texts['%s/%s%s.antt' % (part, stem, end)] = text
+            root = '%s/Lib.antt' % part
+            text = texts.get(root) or others.get(root) or self.texts[part, 'Lib']
+            texts[root] = text + 'pub mod %s%s\n' % (stem, end)
+        return texts
 
 
 def renamed(proof, name, new):
@@ -137,7 +187,13 @@ def dashed(name):
 
 
 def own_error(crate, out, text, name):
-    """The first error in the proof of this function itself, or nothing."""
+    """The first error in the proof of this function itself, or in the files that stand on these
+    definitions under their new names; or nothing."""
+    end = re.fullmatch(r'[A-Z]\w*(_w\d+)', name)
+    if end:
+        own = re.compile(r'(specs|proofs)/\w+%s\.antt:.*\berror\b' % end[1])
+        return next((line for line in unwrapped(out).splitlines()
+                     if own.match(line) and 'was not admitted' not in line), None)
     if not re.search(r'(?m)^fn %s::%s:? (not proved|no proof)' % (crate, name), out):
         return None
     for line in unwrapped(out).splitlines():

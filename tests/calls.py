@@ -29,6 +29,8 @@ GIVEN = {START: 1, START_WITH: 1, CARRY: 1, INSERT: 1, DELETE: 1, CHECK: 1, READ
          DIFFERENCE: 1, IMAGE_WORDS: 2, FREEZE: 1, IMAGE_CHECK: 1, IMAGE_LOOKUP: 4,
          IMAGE_PACKET: 4, IMAGE_TALLY: 4 + 3 * PLACES, IMAGE_WORST: 8, CAPTURE_BEGIN: 2,
          CAPTURE_ADD: 2, EDIT_LIST: 2}
+# what stands before the loads and stores of each call in what touched.c writes
+BEGINS = 2 ** 64 - 1
 # else valgrind leaves out a load whose value is not used, and on Arm no atomic store succeeds
 EVERY = ('--vex-iropt-level=0', *['--sim-hints=fallback-llsc'] * ARM)
 # the C library copies by instructions that a trace has one line for, not one for each byte
@@ -109,23 +111,19 @@ class Script:
         return array('I', [len(self.input), self.given]).tobytes() + self.input.tobytes()
 
 
-def accesses(lines):
-    """The loads and stores of each call, as loads.py has them."""
-    mark, calls, inside = b'%08x,4\n' % BASE, [], False
-    for line in lines:
-        if line[:1] != b' ':
-            continue
-        if line[1:2] == b'S' and line[3:] == mark:
-            inside = not inside
-            if inside:
-                calls.append(array('Q'))
-        elif inside:
-            address, _, size = line[3:].partition(b',')
-            number = int(address, 16) << 16 | int(size) << 8
-            if line[1:2] in b'LM':
-                calls[-1].append(number)
-            if line[1:2] in b'SM':
-                calls[-1].append(number | 1)
+def accesses(file):
+    """The loads and stores of each call, as loads.py has them, from what touched.c writes."""
+    calls = []
+    while chunk := file.read(1 << 23):
+        numbers, at = array('Q', chunk), 0
+        for _ in range(numbers.count(BEGINS)):
+            mark = numbers.index(BEGINS, at)
+            if calls:
+                calls[-1].extend(numbers[at:mark])
+            calls.append(array('Q'))
+            at = mark + 1
+        if calls:
+            calls[-1].extend(numbers[at:])
     return calls
 
 
@@ -133,10 +131,11 @@ class Program:
     """trace.c, linked with an archive."""
 
     def __init__(self, archive, folder):
-        self.path = Path(folder) / 'trace'
-        subprocess.run(['cc', '-std=c11', '-O2', '-Wall', '-Wextra', '-static', '-no-pie',
-                        '-I', ROOT / 'include', ROOT / 'tests/trace.c', archive,
-                        '-o', self.path], check=True)
+        self.path, self.touched = Path(folder) / 'trace', Path(folder) / 'touched'
+        compiler = ['cc', '-std=c11', '-O2', '-Wall', '-Wextra']
+        subprocess.run([*compiler, '-static', '-no-pie', '-I', ROOT / 'include',
+                        ROOT / 'tests/trace.c', archive, '-o', self.path], check=True)
+        subprocess.run([*compiler, ROOT / 'tests/touched.c', '-o', self.touched], check=True)
 
     def run(self, script):
         """What the commands give, without a trace."""
@@ -159,9 +158,11 @@ class Program:
         p, results = self.valgrind(script, '--tool=lackey', '--trace-mem=yes', *EVERY,
                                    '--log-fd=%d' % end, pass_fds=[end])
         os.close(end)
-        with results, os.fdopen(lines, 'rb', 1 << 20) as file:
+        reader = subprocess.Popen([self.touched, '%08x' % BASE], stdin=lines, stdout=subprocess.PIPE)
+        os.close(lines)
+        with results, reader.stdout as file:
             touched = accesses(file)
-            if p.wait() or len(touched) != len(script.calls):
+            if p.wait() or reader.wait() or len(touched) != len(script.calls):
                 sys.exit('trace.c fails under valgrind: status %d' % p.returncode)
             results.seek(0)
             self.frame, *self.image = array('Q', results.read(24))

@@ -22,6 +22,7 @@ import subprocess
 import sys
 import tempfile
 from functools import cache
+from pathlib import Path
 
 from independent import command_line
 from packets import address, capture_of
@@ -29,7 +30,7 @@ from reference import (BENCH_RULES, bench_output, capture_records, default_rule,
                        read_header)
 from tables import random_packet
 
-PACKAGES = ('tshark', 'tcpdump', 'python3-scapy')
+HERE = Path(__file__).resolve().parent
 PYTHONS = (sys.executable, 'python3', '/usr/bin/python3')
 SNAPS = (19, 20, 24, 27, 40)  # snapshot lengths
 ETHERNET = bytes(12) + b'\x08\x00'
@@ -60,15 +61,9 @@ def python_with_scapy():
 
 
 def install():
-    environment = dict(os.environ, DEBIAN_FRONTEND='noninteractive')
-    for command in (['apt-get', 'update'],
-                    ['apt-get', 'install', '-y', '--no-install-recommends'] + list(PACKAGES)):
-        try:
-            if subprocess.run(command, capture_output=True, timeout=600,
-                              env=environment).returncode:
-                print('%s did not work' % ' '.join(command))
-        except (OSError, subprocess.TimeoutExpired) as why:
-            print('%s did not work: %s' % (command[0], why))
+    found = subprocess.run([HERE / 'tools', 'readers'], capture_output=True, text=True, timeout=900)
+    if found.returncode:
+        print('the readers are not all there: %s' % found.stderr.strip()[-500:])
 
 
 def some_packets(rng, count):

@@ -1,15 +1,17 @@
 #!/usr/bin/env python3
 """Tries must-fail edits: small wrong changes that the prover has to refuse.
 
-    tests/must_fail.py [--crate NAME ..] [--only CRATE/LABEL ..] [--all] [--apart] [--jobs N] [--why] [--cut N]
+    tests/must_fail.py [--crate NAME ..] [--only CRATE/LABEL ..] [--all] [--mutants N] [--apart] [--jobs N]
+                       [--why] [--cut N]
     tests/must_fail.py --same [--crate NAME ..]
     tests/must_fail.py --list | --listed | --move CRATE ..
 
 An edit is a file LABEL.edit. Those in crates/CRATE/must-fail are tried by `rt ci`,
 each by a check of its whole crate, and those in tests/must-fail/CRATE here: in a
 copy of the crate, over what `rt check` has proved of it (prover.py), so that only
-what the edit touches is proved again. Run `rt check` first. --all tries both, --jobs
-says how many provers at once, --why prints the error of each refusal too.
+what the edit touches is proved again. Run `rt check` first. --all tries both, --mutants
+so many small wrong changes of each library's code too, those that mutants.py chooses and
+judges, --jobs says how many provers at once, --why prints the error of each refusal too.
 
 Several edits are tried in one copy of a crate (beside.py). One that is not refused so is
 tried in a copy of its own; --apart tries all of them so. --same puts each function that has
@@ -25,13 +27,15 @@ The form is that of `rt must-fail`, one line for each part:
 Each 'old:' goes by the file as the pairs before it left it. Any other line that is
 not empty makes the edit a bad one.
 
-Outcomes, of which the first two have passed and all others failed:
+Outcomes, of which the first three have passed and all others failed:
   refused       the first error is that something does not hold
   shape, meant  the first error is that the proof no longer fits the code, and the
-                edit says why that is meant
+                edit says why that is meant, or it is a mutant
+  same          a mutant that is proved, of which mutants-same.txt says why
   shape         the same, and the edit does not say so: it shows little
   NOT REFUSED   the crate with this edit is proved, by a check of the whole of it
-  not compiled  the edit did not reach the prover
+  not compiled  the edit did not reach the prover; a mutant that does not shows nothing,
+                and is not counted
   no verdict    out of time, or the prover could not tell
   bad edit      it is not of the form above, or the crate itself is not proved
 Those that failed are named again at the end, and the last line counts edits.
@@ -43,17 +47,19 @@ tests/must-fail/kept.txt names, a line CRATE/LABEL for each; it writes the page 
 """
 
 import argparse
+import re
 import subprocess
 import sys
 from collections import Counter
 
 from beside import Bad, Functions, together
+from mutants import Change, Run
 from prover import JOBS, ROOT, Kit, NotProved, crates, outcome, over_baselines
 
 HERE = ROOT / 'tests/must-fail'
 PAGE = ROOT / 'docs/EDITS.md'
 LIMIT = 600  # seconds for one edit
-PASSED = ('refused', 'shape, meant')
+PASSED = ('refused', 'shape, meant', 'same')
 
 
 class Edit:
@@ -104,11 +110,21 @@ class Edit:
         return texts
 
     def function(self, functions):
-        """The one function whose body has every change of the edit, or nothing."""
+        """The one function that has every change of the edit, or nothing."""
         found = set() if not self.fault else {None}
         for file, old, _ in self.changes:
             found.add(functions.around(old) if file == functions.file else None)
         return found.pop() if len(found) == 1 else None
+
+    def definitions(self):
+        """The one file of definitions that has every change of the edit, or nothing."""
+        files = {file for file, _, _ in self.changes} if not self.fault else set()
+        found = re.fullmatch(r'specs/(\w+)\.antt', files.pop()) if len(files) == 1 else None
+        return found and found[1]
+
+    def judged(self, base):
+        what, first, took = base.judge(self.texts(), LIMIT)
+        return 'shape, meant' if what == 'shape' and self.shape else what, first, took
 
     def wrong(self, functions, name):
         """The function as the edit has it."""
@@ -119,17 +135,37 @@ class Edit:
         return text
 
 
-class Same:
-    """A function as it stands, in place of an edit of it."""
+class Mutant(Change):
+    """A mutant in place of an edit."""
 
-    def __init__(self, name):
-        self.name = name
+    def __init__(self, run, mutant):
+        super().__init__(mutant)
+        self.run, self.name = run, mutant.id
+
+    def judged(self, base):
+        what, first, took = self.run.alone(base, self.mutant)
+        if what == 'survived':
+            return *self.run.same_or_survived(self.mutant), took
+        return {'shape': 'shape, meant'}.get(what, what), first, took
+
+
+class Same:
+    """A function or a file of definitions as it stands, in place of an edit of it."""
+
+    def __init__(self, crate, name):
+        self.name, self.defines = name, (ROOT / 'crates' / crate / 'specs' / (name + '.antt'))
 
     def function(self, functions):
-        return self.name
+        return self.name if not self.defines.exists() else None
+
+    def definitions(self):
+        return self.name if self.defines.exists() else None
 
     def wrong(self, functions, name):
         return functions.whole(name)
+
+    def texts(self, others=None):
+        return {'specs/%s.antt' % self.name: self.defines.read_text()}
 
 
 def edits_of(crate):
@@ -150,13 +186,10 @@ def kept():
 def one(base, edit):
     """The outcome, the line that shows it, and the prover's seconds."""
     try:
-        what, first, took = base.judge(edit.texts(), LIMIT)
+        what, first, took = edit.judged(base)
     except Bad as problem:
         return 'bad edit', str(problem), 0
-    if what == 'shape' and edit.shape:
-        what = 'shape, meant'
-    what = {'fact': 'refused', 'survived': 'NOT REFUSED'}.get(what, what)
-    return what, first, took
+    return {'fact': 'refused', 'survived': 'NOT REFUSED'}.get(what, what), first, took
 
 
 def plan(options):
@@ -170,6 +203,10 @@ def plan(options):
                  not options.only and (options.all or edit.here())]
         if edits:
             chosen[crate] = edits
+    if options.mutants:
+        run = Run(argparse.Namespace(crate=options.crate, most=options.mutants, only=[], seed=1, limit=LIMIT))
+        for crate, mutants in run.plan().items():
+            chosen.setdefault(crate, []).extend(Mutant(run, mutant) for mutant in mutants)
     return chosen
 
 
@@ -184,6 +221,9 @@ def try_all(options):
         except NotProved as problem:
             return {edit: ('bad edit', str(problem), 0) for edit in group.values()}
         found = together(base, group, functions[crate], LIMIT) if len(group) > 1 else {}
+        if not found:  # a mutant that does not compile hides all others of its copy
+            edits = {name: edit for name, edit in group.items() if not isinstance(edit, Mutant)}
+            found = together(base, edits, functions[crate], LIMIT) if 1 < len(edits) < len(group) else {}
         facts = {edit: ('refused', *rest) for edit, (what, *rest) in found.items() if what == 'fact'}
         return {edit: facts.get(edit) or one(base, edit) for edit in group.values()}
 
@@ -195,14 +235,14 @@ def try_all(options):
             seconds[crate] += took
             first = '' if what == 'refused' and not options.why else first[:options.cut]
             print('%-12s %s (%.1f s) %s' % (what, edit.name, took, first), flush=True)
-            if what not in PASSED:
+            if what not in PASSED and not (isinstance(edit, Mutant) and what == 'not compiled'):
                 wrong.append('FAILED %s: %s %s' % (edit.name, what, first))
     for crate, edits in chosen.items():
-        print('%-12s %3d edits, %6.1f s' % (crate, len(edits), seconds[crate]))
+        print('%-12s %3d changes, %6.1f s' % (crate, len(edits), seconds[crate]))
     for line in wrong:
         print(line)
     passed = sum(counts[what] for what in PASSED)
-    failed = sum(counts.values()) - passed
+    failed = len(wrong)
     print('%d passed, %d failed' % (passed, failed))
     return 1 if failed else 0
 
@@ -212,8 +252,9 @@ def try_same(options):
     functions = {crate: Functions(crate, kit.files[crate]) for crate in chosen}
     groups = {}
     for crate, edits in chosen.items():
-        names = sorted({edit.function(functions[crate]) for edit in edits} - {None})
-        beside = [Same(name) for name in names if functions[crate].head(name) is not None]
+        names = {edit.function(functions[crate]) for edit in edits} - {None}
+        beside = [Same(crate, name) for name in sorted(names) if functions[crate].head(name) is not None]
+        beside += [Same(crate, name) for name in sorted({edit.definitions() for edit in edits} - {None})]
         groups[crate] = functions[crate].groups(beside)
 
     def each(crate, baseline, group):
@@ -293,6 +334,7 @@ def main():
     parser.add_argument('--only', nargs='+', default=[])
     parser.add_argument('--jobs', type=int, default=JOBS)
     parser.add_argument('--all', action='store_true')
+    parser.add_argument('--mutants', type=int, default=0)
     parser.add_argument('--apart', action='store_true')
     parser.add_argument('--same', action='store_true')
     parser.add_argument('--why', action='store_true', help='print the error of each refusal too')

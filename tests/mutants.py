@@ -61,6 +61,9 @@ class Change:
         name = self.mutant.function
         return name if functions.head(name) is not None else None
 
+    def definitions(self):
+        return None
+
     def wrong(self, functions, name):
         text = apply(functions.text, self.mutant.edits)
         return text[functions.head(name):functions.bodies[name][1] + len(text) - len(functions.text)]
@@ -166,12 +169,18 @@ class Run:
         return base.judge({self.kit.files[m.crate]: new}, self.options.limit,
                           whole=change_of(m, old, new) not in self.same)
 
+    def same_or_survived(self, m):
+        """Of a mutant that is proved: whether it does the same, and why."""
+        old = self.sources[m.crate].text
+        change = change_of(m, old, apply(old, m.edits))
+        return ('same', self.same[change]) if change in self.same else ('survived', '')
+
     def count(self, m, what, first, took):
         old = self.sources[m.crate].text
         new = apply(old, m.edits)
         change = change_of(m, old, new)
-        if what == 'survived' and change in self.same:
-            what, first = 'same', self.same[change]
+        if what == 'survived':
+            what, first = self.same_or_survived(m)
         self.counts[m.crate][what] += 1
         print('%-12s %s (%s, %s; %.0f s) %s' % (what, m.id, m.function, m.kind, took,
                                                 first[:self.options.cut]), flush=True)

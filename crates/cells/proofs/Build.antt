@@ -96,7 +96,7 @@ low-plain c a u (e ∷ es) = ap (λ k. onlyDown (a + k)) (len-plain es ∙ sym (
 pub past-run : {ws : List ℕ} {h c a n : ℕ} {q : List ℕ} (es : List ℕ) → Rows ws h c a n q (plain es) → firstFree ws ≡ a + length es
 past-run es b = st-head (b .state) ∙ rw (len-plain es)
 
--- where build_chain stands, at cell k: below the ends ds all stands, and below the others, `up` from the highest on, nothing yet
+-- where build_under stands, at cell k: below the ends ds all stands, and below the others, `up` from the highest on, nothing yet
 pub record Filling (ws : List ℕ) (c a n : ℕ) (q : List ℕ) (k : ℕ) (u : ℕ → Tree ℕ) (es : List ℕ) : Type 0 where
   pub up : List ℕ
   pub ds : List ℕ
@@ -242,7 +242,7 @@ under-is rules ps qs f n e k = rw k
 abbrev pub Run-of : List ℕ → ℕ → ℕ → List ℕ → List ℕ → ℕ → ℕ → ℕ → ℕ → List ℕ → Type 0
 Run-of ws h c rules ps f d a m q = Rows ws h c a (under (chain (underAt rules f d ps) (ends (fieldAt rules f) ps)) + m) q (plain (ends (fieldAt rules f) ps))
 
--- where the loop of build_chain stands, over words and sets that stood at its start: the rules and the set stay
+-- where the loop of build_under stands, over words and sets that stood at its start: the rules and the set stay
 pub record Filled (base : ℕ) (ws₀ ws sets₀ sets ends₀ ends' : List ℕ) (n h c f d k₀ k : ℕ) : Type 0 where
   pub fills : (a m : ℕ) (q : List ℕ) → k₀ ≡ a → Run-of (drop base ws₀) h c (take base ws₀) (take n sets₀) f d a m q → Filling (drop base ws) c a m q k (underAt (take base ws₀) f d (take n sets₀)) (ends (fieldAt (take base ws₀) f) (take n sets₀))
   pub kept : take base ws ≡ take base ws₀

@@ -175,7 +175,7 @@ fn build_leaf(set: &[u16]) -> Below
     }
 }
 
-// Builds the tree of the rules of the set, which is the first n numbers of sets, over as many fields as are left, from a field on, in the first free cells. Where all rules have one range from 0, the chain is one cell, with the same rules below it. Else it is the run of the field's ends, and then for each of its cells the tree of the rules that cover its end, whose set is written behind this one. Answers what a cell above it says. The ends of each run in turn are written beside.
+// Builds the tree of the rules of the set, which is the first n numbers of sets, over as many fields as are left, from a field on, in the first free cells. Where all rules have one range from 0, the chain is one cell, with the same rules below it; else build_under builds it. Answers what a cell above it says. The ends of each run in turn are written beside.
 fn build_chain(
     words: &mut [u32],
     base: usize,
@@ -206,8 +206,25 @@ fn build_chain(
         write_below(words, base, one, below);
         return Below { down: one, side: 0 };
     }
+    build_under(words, base, c, sets, n, field, left, ends)
+}
+
+// As build_chain, where a field is left, end by end: the run of the field's ends, and then for each of its cells the tree of the rules that cover its end, whose set is written behind this one. It and build_chain call each other, and the number of fields left falls.
+fn build_under(
+    words: &mut [u32],
+    base: usize,
+    c: u32,
+    sets: &mut [u16],
+    n: usize,
+    field: u32,
+    left: u32,
+    ends: &mut [u32],
+) -> Below
+    requires { ⌜ (0 < left) × Buildable (now words) base c (now sets) n field left (now ends) ⌝ }
+    ensures { λ r. ⌜ Built base (now (words .entry)) (now (words .exit)) r c (treeAt (take base (now (words .entry))) field left (take n (now (sets .entry)))) ⌝ }
+{
     let mut k = words[base];
-    let lowest = build_run(words, base, c, set, field, ends);
+    let lowest = build_run(words, base, c, &sets[..n], field, ends);
     let past = words[base];
     while k < past {
         let end = end_of(words, base, k);

@@ -306,7 +306,7 @@ module _ {ws : List ℕ} {c : ℕ} {rules ps : List ℕ} {f k : ℕ} {low : Belo
   pub last-on : not x ≡ false → Compared ws c rules ps f 1 k low end (i + 1) end
   last-on v = compared-on (λ z. absurd (omega arith)) o r l refl below-last refl g v
 
--- where the loop of compare_chain stands, over sets and ends that stood at its start: the set stays
+-- where the loop of compare_run stands, over sets and ends that stood at its start: the set stays
 pub record Comparing (ws : List ℕ) (c : ℕ) (rules sets₀ sets ends₀ ends' : List ℕ) (n f d k : ℕ) (low : Below) (end i b : ℕ) : Type 0 where
   pub compared : Compared ws c rules (take n sets₀) f d k low end i b
   pub set-kept : take n sets ≡ take n sets₀

@@ -172,7 +172,7 @@ fn last_is(
     Told::Same(end, low)
 }
 
-// Whether the cells from k on are the tree of the rules of the set, which is the first n numbers of sets, over left fields from field on. Where all rules have one range from 0, the chain is one cell, with the same rules below it. Else first the ends of the chain's run; then, cell by cell, what is below each: it begins at cell b, and the set of its rules is written behind this one. The ends of each run in turn are written beside.
+// Whether the cells from k on are the tree of the rules of the set, which is the first n numbers of sets, over left fields from field on. Where all rules have one range from 0, the chain is one cell, with the same rules below it. Else it is compared end by end. The ends of each run in turn are written beside.
 fn compare_chain(
     words: &[u32],
     c: u32,
@@ -230,12 +230,32 @@ fn compare_chain(
         }
         return Told::Same(past, Below { down: k, side: 0 });
     }
+    compare_run(words, c, rules, sets, n, field, left, k, ends)
+}
+
+// As compare_chain, where a field is left, end by end: first the ends of the chain's run; then, cell by cell, what is below each: it begins at cell b, and the set of its rules is written behind this one. It and compare_chain call each other, and the number of fields left falls.
+fn compare_run(
+    words: &[u32],
+    c: u32,
+    rules: &[u32],
+    sets: &mut [u16],
+    n: usize,
+    field: u32,
+    left: u32,
+    k: u32,
+    ends: &mut [u32],
+) -> Told
+    requires { ⌜ (0 < left) × Room (now words) c × Scratch n left (now sets) (now ends) × (field + left ≤ 64) × (k ≤ c) ⌝ }
+    ensures { λ r. ⌜ r ≡ told (now (words .entry)) c k (treeAt (now (rules .entry)) field left (take n (now (sets .entry)))) ⌝ }
+{
+    let set = &sets[..n];
     let Told::Same(end, low) = run_is(words, c, rules, set, field, k, ends) else {
         return Told::Differs;
     };
     if left == 1 {
         return last_is(words, c, rules, set, field, k, end, low);
     }
+    let none = &rules[..0];
     let mut i = k;
     let mut b = end;
     while i < end {

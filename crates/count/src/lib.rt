@@ -1,7 +1,7 @@
 // How many locations the tree of some rules has, counted before a cell is taken. This crate keeps no words and changes none but the scratch that it is lent.
 ghost use mathlib.Core.Path.{_≡_};
 ghost use mathlib.Core.List.{_++_};
-ghost use Prim.Native.Nat.{_+_, _*_, _≤_, min};
+ghost use Prim.Native.Nat.{_+_, _*_, _≤_, _<_, min};
 ghost use lib.ListN.{length, take};
 ghost use Rattle.model.specs.Rules.{cells};
 ghost use Rattle.rows.specs.Rows.{treeAt, Scratch};
@@ -57,8 +57,24 @@ pub fn count_chain(
     if left == 1 {
         return count_ends(rules, more, set, field, room, ends);
     }
-    // From the highest end down: those that are still to come keep their places, and the scratch behind them is lent on.
-    let mut i = rows::ends_of(rules, more, set, field, ends);
+    count_run(rules, more, sets, n, field, left, room, ends)
+}
+
+// As count_chain, where a field is left, end by end from the highest down: those that are still to come keep their places, and the scratch behind them is lent on. It and count_chain call each other, and the number of fields left falls.
+fn count_run(
+    rules: &[u32],
+    more: &[u32],
+    sets: &mut [u16],
+    n: usize,
+    field: u32,
+    left: u32,
+    room: u32,
+    ends: &mut [u32],
+) -> u32
+    requires { ⌜ (0 < left) × Scratch n left (now sets) (now ends) × (field + left ≤ 64) × (room ≤ 65536) ⌝ }
+    ensures { λ r. ⌜ r ≡ min (cells (treeAt (now (rules .entry) ++ now (more .entry)) field left (take n (now (sets .entry))))) (room + 1) ⌝ }
+{
+    let mut i = rows::ends_of(rules, more, &sets[..n], field, ends);
     let mut count: u32 = 0;
     while 0 < i {
         if room <= count {

@@ -178,7 +178,7 @@ module _ (rules ps : List ℕ) (f n above : ℕ) where
         pub last-met : {goal : ℕ} (out : List ℕ) → length out ≡ 1 → goal ≤ own → Met W 0 goal own out (set out 0 0)
         last-met out o h = met-yes (omega (arith, all-even .0)) (sym (all-even .0)) (only out o ∙ sym (all-even .1))
 
--- WHERE `of_chain` STANDS in its loop, over the set of n rules, with the scratch and the record as they were where the loop began: the set stays, and so do the ends that are still to come.
+-- WHERE `of_run` STANDS in its loop, over the set of n rules, with the scratch and the record as they were where the loop began: the set stays, and so do the ends that are still to come.
 pub record Going (rules sets₀ ends₀ out₀ sets ends out : List ℕ) (n f left above own goal next found i : ℕ) : Type 0 where
   pub seen : Seen (weigh own (chain (underAt rules f left (take n sets₀)) (drop i (endsOf (fieldAt rules f) (take n sets₀))))) (lowAt (endsOf (fieldAt rules f) (take n sets₀)) i) goal next found out₀ out
   pub levelled : own ≡ above + levels (length (endsOf (fieldAt rules f) (take n sets₀)))

@@ -59,7 +59,7 @@ fn of_ends(
     own
 }
 
-// Of the tree of the rules whose rows begin at the first n numbers of sets, over left fields from field on, with so many blocks read above it: the most blocks that are read in all, and the first record that reads so many is written. Where they are fewer than a goal, 0, and nothing is written. The locations of a chain are gone through from the highest end down. Each that is no worse than those above it has its record written over theirs, so what is below it is asked for no fewer than they gave.
+// Of the tree of the rules whose rows begin at the first n numbers of sets, over left fields from field on, with so many blocks read above it: the most blocks that are read in all, and the first record that reads so many is written. Where they are fewer than a goal, 0, and nothing is written.
 pub fn of_chain(
     rules: &[u32],
     more: &[u32],
@@ -106,8 +106,26 @@ pub fn of_chain(
     if left == 1 {
         return of_ends(rules, more, set, field, above, goal, ends, out);
     }
-    // The ends that are still to come keep their places, and the scratch behind them is lent on.
-    let mut i = rows::ends_of(rules, more, set, field, ends);
+    of_run(rules, more, sets, n, field, left, above, goal, ends, out)
+}
+
+// As of_chain, where a field is left, end by end from the highest down: those that are still to come keep their places, and the scratch behind them is lent on. Each location that is no worse than those above it has its record written over theirs, so what is below it is asked for no fewer than they gave. It and of_chain call each other, and the number of fields left falls.
+fn of_run(
+    rules: &[u32],
+    more: &[u32],
+    sets: &mut [u16],
+    n: usize,
+    field: u32,
+    left: u32,
+    above: u32,
+    goal: u32,
+    ends: &mut [u32],
+    out: &mut [u32],
+) -> u32
+    requires { ⌜ (0 < left) × Scratch n left (now sets) (now ends) × (n ≤ 1024) × (field + left ≤ 64) × (above + 4 * left ≤ 4294967295) × (0 < goal) × (length (now out) ≡ left) ⌝ }
+    ensures { λ r. ⌜ Met (weighed above (treeAt (now (rules .entry) ++ now (more .entry)) field left (take n (now (sets .entry))))) 0 goal r (now (out .entry)) (now (out .exit)) ⌝ }
+{
+    let mut i = rows::ends_of(rules, more, &sets[..n], field, ends);
     let own = above + levels(i);
     let mut next = goal;
     let mut found: u32 = 0;

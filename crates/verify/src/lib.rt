@@ -1,7 +1,7 @@
 // Whether words are exactly the blocks of the tree of some rules. The tree is not made: its chains are gone through in the order in which they are laid, and each word is compared with what would be written there.
 ghost use mathlib.Core.Path.{_≡_};
 ghost use mathlib.Core.Bool.{_&&_, _||_};
-ghost use Prim.Native.Nat.{_+_, _*_, _/_, _≤_};
+ghost use Prim.Native.Nat.{_+_, _*_, _/_, _≤_, _<_};
 ghost use lib.Dec.{ltb, eqb};
 ghost use lib.ListN.{length, getD, take};
 ghost use Rattle.model.specs.Lists.{same};
@@ -191,7 +191,7 @@ fn last_is(
     Told::Same(base + (m + 7) / 8, a as u32)
 }
 
-// Whether the blocks from block a on are those of the tree of the rules of the set, which is the first n numbers of sets, over left fields from field on. Where all rules have one range from 0, the chain is one block, with the same rules below its end. Else first the ends of the chain; then, end by end, what is below it, which begins at block b, and the link to that; then the levels above the ends. The set of the rules below an end is written behind this one, and the ends of each chain in turn are written beside.
+// Whether the blocks from block a on are those of the tree of the rules of the set, which is the first n numbers of sets, over left fields from field on. Where all rules have one range from 0, the chain is one block, with the same rules below its end. Else it is looked at end by end. The ends of each chain in turn are written beside.
 fn chain_is(
     words: &[u32],
     rules: &[u32],
@@ -224,12 +224,31 @@ fn chain_is(
         }
         return Told::Same(past, a as u32);
     }
+    run_is(words, rules, sets, n, field, left, a, ends)
+}
+
+// As chain_is, where a field is left, end by end: first the ends of the chain; then, for each of them, what is below it, which begins at block b, and the link to that; then the levels above the ends. The set of the rules below an end is written behind this one. It and chain_is call each other, and the number of fields left falls.
+fn run_is(
+    words: &[u32],
+    rules: &[u32],
+    sets: &mut [u16],
+    n: usize,
+    field: u32,
+    left: u32,
+    a: usize,
+    ends: &mut [u32],
+) -> Told
+    requires { ⌜ (0 < left) × (16 * a ≤ length (now words)) × (length (now words) ≤ 16777216) × Scratch n left (now sets) (now ends) × (field + left ≤ 64) ⌝ }
+    ensures { λ r. ⌜ Tells r (now (words .entry)) a (treeAt (now (rules .entry)) field left (take n (now (sets .entry)))) ⌝ }
+{
+    let set = &sets[..n];
     let Ends::At(m, base) = low_is(words, rules, set, field, a, ends) else {
         return Told::Differs;
     };
     if left == 1 {
         return last_is(words, rules, set, field, a, m, base);
     }
+    let none = &rules[..0];
     let mut b = base + (m + 7) / 8;
     let mut i: usize = 0;
     while i < m {

@@ -1,6 +1,5 @@
 -- `audit::find` meets its contract: one law for each answer.
 -- Assumes nothing.
-use borrow.Author.Needs.{needs}
 use borrow.Author.Tests.{not-true, not-false}
 use mathlib.Core.Path.{sym, ap, _∙_}
 use native.Mathlib.Omega.{arith}
@@ -18,17 +17,17 @@ pub find-spec : {M : Type 1} → statement M
 find-spec =
     tie.close
     (tie.spec
-    (λ c κs. search needs)
-    (λ c. search needs)
-    (λ c. search needs)
+    (λ c κs. omega (arith, c .before .before .before .before .before .before .pre))
+    (λ c. omega (arith, c .before .before .before .before .sets .given))
+    (λ c. omega (arith, c .before .before .ends .given))
     -- returns
     (λ c.
     let k = c .before .before .before .before .before in
     let s = c .before .before .before .before .before .before .before .before .before .before .before .before in
     let a = s .args in
     (find-9 (kindOf (a .tops .now) (a .shape)) (s .pre .0) (a .words .now) (a .number) (sym (k .check .ensures) ∙ not-true _ (c .if1 .taken)), λ z. absurd (omega arith)))
-    (λ c. search needs)
-    (λ c. search needs)
+    (λ c. omega (arith, c .before .before .before .before .before .sets .given))
+    (λ c. omega (arith, c .before .before .before .ends .given))
     -- returns-2
     (λ c.
     let q1 = c .before in
@@ -39,8 +38,8 @@ find-spec =
     let o = sound (kindOf (a .tops .now) (a .shape)) (s .pre .0) (a .words .now) h in
     let w = sound-room (kindOf (a .tops .now) (a .shape)) (s .pre .0) (a .words .now) o in
     let g = find-default (kindOf (a .tops .now) (a .shape)) (s .pre .0) (a .words .now) (a .number) h (c .if2 .taken) in (g .0, λ z. g .1))
-    (λ c. search needs)
-    (λ c. search needs)
+    (λ c. omega (arith, c .before .before .before .before .before .before .sets .given))
+    (λ c. omega (arith, c .before .before .before .before .ends .given))
     -- returns-3
     (λ c.
     let q1 = c .before .before in
@@ -52,9 +51,9 @@ find-spec =
     let w = sound-room (kindOf (a .tops .now) (a .shape)) (s .pre .0) (a .words .now) o in
     let q2 = c .before in
     (find-1 (kindOf (a .tops .now) (a .shape)) (s .pre .0) (a .words .now) (a .number) h (q2 .if2 .left) (c .if3 .taken), λ z. absurd (omega arith)))
-    (λ c. search needs)
-    (λ c κs. search needs)
-    (λ c. search needs)
+    (λ c. omega (arith, c .struct-known .given))
+    (λ c κs. omega (arith, c .before .before .before .before .before .before .before .before .before .before .before .before .before .before .before .pre))
+    (λ c. omega (arith, c .rows-end .ensures))
     -- shared-slice-read-n
     (λ c.
     let q1 = c .before .before .before .before .before in
@@ -65,9 +64,9 @@ find-spec =
     let o = sound (kindOf (a .tops .now) (a .shape)) (s .pre .0) (a .words .now) h in
     let w = sound-room (kindOf (a .tops .now) (a .shape)) (s .pre .0) (a .words .now) o in
     omega (arith, w .long))
-    (λ c. search needs)
-    (λ c. search needs)
-    (λ c. search needs)
+    (λ c. omega (arith, c .before .rows-end .ensures))
+    (λ c. omega (arith, c .before .rows-end .ensures))
+    (λ c. omega (arith, c .before .rows-end .ensures))
     -- part-before-end
     (λ c.
     let q1 = c .before .before .before .before .before in
@@ -90,9 +89,9 @@ find-spec =
     let w = sound-room (kindOf (a .tops .now) (a .shape)) (s .pre .0) (a .words .now) o in
     let e = c .before .before in
     let t = slice-table (kindOf (a .tops .now) (a .shape)) (a .words .now) _ (e .rows-end .ensures .0) in (omega (arith, o .few, s .pre .0 .few), s .pre .0 .narrow, ap (λ t. risingFrom 0 (t .rules)) t ∙ o .rising))
-    (λ c. search needs)
-    (λ c. search needs)
-    (λ c. search needs)
+    (λ c. omega (arith, c .before .before .before .rows-end .ensures))
+    (λ c. omega (arith, c .before .before .before .rows-end .ensures))
+    (λ c. omega (arith, c .before .before .before .rows-end .ensures))
     -- part-stands-behind-end
     (λ c.
     let q1 = c .before .before .before .before .before .before .before in
@@ -116,8 +115,8 @@ find-spec =
     let e = c .before .before .before .before in
     let b = c .before in
     let t = slice-table (kindOf (a .tops .now) (a .shape)) (a .words .now) _ (e .rows-end .ensures .0) in (s .pre .0 .narrow, omega (arith, o .few, s .pre .0 .few), ap (λ t. risingFrom 0 (t .rules)) t ∙ o .rising, b .before2 .ensures .0))
-    (λ c. search needs)
-    (λ c. search needs)
+    (λ c. omega (arith, c .before .before .before .before .before .before .before .before .before .before .before .before .before .before .sets .given))
+    (λ c. omega (arith, c .before .before .before .before .before .before .before .before .before .before .before .before .ends .given))
     -- returns-4
     (λ c.
     let q1 = c .before .before .before .before .before .before .before .before .before .before in
@@ -153,8 +152,8 @@ find-spec =
     let w = sound-room (kindOf (a .tops .now) (a .shape)) (s .pre .0) (a .words .now) o in
     let b = c .before .before .before in
     (s .pre .0 .narrow, omega (arith, b .before2 .ensures .1, o .few, s .pre .0 .few)))
-    (λ c. search needs)
-    (λ c. search needs)
+    (λ c. omega (arith, c .before .before .before .before .before .before .before .before .before .before .before .before .before .before .before .sets .given))
+    (λ c. omega (arith, c .before .before .before .before .before .before .before .before .before .before .before .before .before .ends .given))
     -- returns-5
     (λ c.
     let q1 = c .before .before .before .before .before .before .before .before .before .before .before in

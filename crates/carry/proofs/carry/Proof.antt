@@ -21,9 +21,9 @@ carry-spec =
     (λ c κs.
     let s = c .before .before .before .before .before .before .before .before in
     (s .pre .0, s .pre .1, scratch-few (suc (s .args .old .most)) (s .pre .4) (omega (arith, s .pre .3))))
-    (λ c. search needs)
-    (λ c. search needs)
-    (λ c. search needs)
+    (λ c. omega arith)
+    (λ c. omega (arith, c .before .before .before .before .sets .given))
+    (λ c. omega (arith, c .before .before .ends .given))
     -- returns
     (λ c.
     let d = c .before .before .before .before .before in
@@ -40,17 +40,17 @@ carry-spec =
     let z = sym (q .if1 .left) ∙ d .decide-carry .ensures in
     let v = goes (a .tops .now) (a .old) (a .shape) (s .pre .0) (a .from .now) (a .words .now) (a .c) z in
     omega (arith, sound-room (kindOf (a .tops .now) (a .old)) (s .pre .0) (a .from .now) (v .old) .long))
-    (λ c. search needs)
-    (λ c κs. search needs)
-    (λ c. search needs)
-    (λ c κs. search needs)
-    (λ c. search needs)
-    (λ c. search needs)
-    (λ c. search needs)
-    (λ c. search needs)
-    (λ c. search needs)
-    (λ c. search needs)
-    (λ c. search needs)
+    (λ c. omega (arith, c .struct-known .given))
+    (λ c κs. omega (arith, c .before .before .before .before .before .before .before .before .before .before .before .before .before .before .before .before .pre))
+    (λ c. omega (arith, c .rows-end .ensures))
+    (λ c κs. omega (arith, c .before .before .before .before .before .before .before .before .before .before .before .before .before .before .before .before .before .pre))
+    (λ c. omega (arith, c .rows-end2 .ensures))
+    (λ c. omega (arith, c .before .before .before .before .before .before .before .before .before .before .before .before .before .before .before .before .before .before .good))
+    (λ c. omega (arith, c .before .before .before .before .before .before .before .before .before .before .before .before .before .before .before .before .before .before .good))
+    (λ c. let a = c .before .before .before .before .before .before .before .before .before .before .before .before .before .before .before .before .before .before in omega (arith, c .rows-end2 .ensures, a .good))
+    (λ c. omega (arith, c .rows-end2 .ensures))
+    (λ c. omega arith)
+    (λ c. omega arith)
     -- part-clear-end
     (λ c.
     let e = c in
@@ -99,9 +99,9 @@ carry-spec =
     let v = goes (a .tops .now) (a .old) (a .shape) (s .pre .0) (a .from .now) (a .words .now) (a .c) z in
     let l = still-long (a .c) (e .rows-end2 .result) (a .words .now) _ (omega (arith, f, v .room .long)) (v .room .most) (b .clear .ensures) in
     sym (length-take-le _ _ (omega (arith, l, f, v .room .long))))
-    (λ c. search needs)
-    (λ c. search needs)
-    (λ c. search needs)
+    (λ c. omega (arith, c .before .before .before .before .before .before .rows-end .ensures))
+    (λ c. omega (arith, c .before .before .before .before .before .before .rows-end .ensures))
+    (λ c. omega (arith, c .before .before .before .before .before .before .rows-end .ensures))
     -- part-carried-end
     (λ c.
     let e = c .before .before .before .before .before .before in
@@ -138,9 +138,9 @@ carry-spec =
     let z = sym (q .if1 .left) ∙ d .decide-carry .ensures in
     let v = goes (a .tops .now) (a .old) (a .shape) (s .pre .0) (a .from .now) (a .words .now) (a .c) z in
     (s .pre .1, record { places = omega (arith, s .pre .4 .places, d .decide-carry .kept .1 .1 .1 .1 .1 .1 .0); room = omega (arith, s .pre .4 .room, d .decide-carry .kept .1 .1 .1 .1 .1 .1 .1 .0) }, omega (arith, v .old .few, s .pre .3), carried-bare (a .tops .now) (a .old) (a .shape) (s .pre .0) (s .pre .1) (s .pre .2) (s .pre .3) (a .from .now) (a .words .now) (a .c) z _ _ (e .before .rows-end .ensures .0) f _ _ (b .clear .ensures) (x .carried .ensures), carried-room (a .tops .now) (a .old) (a .shape) (s .pre .0) (s .pre .1) (s .pre .2) (s .pre .3) (a .from .now) (a .words .now) (a .c) z _ _ (e .before .rows-end .ensures .0) f _ _ (b .clear .ensures) (x .carried .ensures)))
-    (λ c. search needs)
-    (λ c. search needs)
-    (λ c. search needs)
+    (λ c. let a = c .before .before .before .before .before in let b = a .before .before .before .before .before .before in let d = b .before .before .before .before .before in omega (arith, a .words3 .given, b .words2 .given, d .words .given))
+    (λ c. let a = c .before .before .before in let b = a .before .before .before .before .before .before .before .before .before .before .before .before .before .before .before .before .before .before .before .before .before .before .before .before in omega (arith, a .sets2 .given, b .sets .given))
+    (λ c. let a = c .before in let b = a .before .before .before .before .before .before .before .before .before .before .before .before .before .before .before .before .before .before .before .before .before .before .before .before in omega (arith, a .ends2 .given, b .ends .given))
     -- returns-2
     (λ c.
     let p = c .before .before .before .before .before .before in

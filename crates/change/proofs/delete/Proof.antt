@@ -1,6 +1,5 @@
 -- `change::delete` meets its contract: the cells are emptied, the front is edited where it stands, the tree is planted.
 -- Assumes nothing.
-use borrow.Author.Needs.{needs}
 use mathlib.Core.Path.{sym, _∙_}
 use native.Mathlib.Omega.{arith}
 use Prim.Native.Nat.{_+_, _-_, _*_}
@@ -20,10 +19,10 @@ pub delete-spec : {M : Type 1} → statement M
 delete-spec =
     tie.close
     (tie.spec
-    (λ c κs. search needs)
-    (λ c. search needs)
-    (λ c. search needs)
-    (λ c. search needs)
+    (λ c κs. omega (arith, c .before .before .before .before .before .before .before .pre))
+    (λ c. omega arith)
+    (λ c. omega (arith, c .before .before .before .before .before .sets .given))
+    (λ c. omega (arith, c .before .before .before .ends .given))
     -- returns
     (λ c.
     let d = c .before .before .before .before .before .before in
@@ -55,8 +54,8 @@ delete-spec =
     let o = sound g (s .pre .0) (a .words .now) h in
     let w = sound-room g (s .pre .0) (a .words .now) o in
     omega (arith, w .long))
-    (λ c κs. search needs)
-    (λ c. search needs)
+    (λ c κs. omega (arith, c .before .before .before .before .before .before .before .before .before .before .before .before .before .before .before .before .pre))
+    (λ c. omega (arith, c .rows-end .ensures))
     -- cast-end
     (λ c.
     let q = c .before .before .before in
@@ -107,9 +106,9 @@ delete-spec =
     let e = c in
     let f = e .rows-end .ensures .0 in
     omega (arith, w .most, e .rows-end .ensures .1))
-    (λ c. search needs)
-    (λ c. search needs)
-    (λ c. search needs)
+    (λ c. omega (arith, c .rows-end .ensures))
+    (λ c. omega arith)
+    (λ c. omega arith)
     -- part-drop-end
     (λ c.
     let q = c .before .before .before in
@@ -124,7 +123,7 @@ delete-spec =
     let e = c in
     let f = e .rows-end .ensures .0 in
     omega (arith, f, w .long))
-    (λ c. search needs)
+    (λ c. omega (arith, c .before .before .before .before .before .before .before .before .before .before .before .before .before .before .before .before .before .before .pre))
     -- drop-requires
     (λ c κs.
     let q = c .before .before .before .before in
@@ -216,9 +215,9 @@ delete-spec =
     let l = still-long _ (e .rows-end .result) (a .words .now) _ (omega (arith, f, w .long)) (w .most) (b .drop .ensures) in
     let x = c .before .before .before .before .before in
     (s .pre .0, record { places = omega (arith, s .pre .1 .places, d .decide-delete .kept .1 .1 .1 .1 .0); room = omega (arith, s .pre .1 .room, d .decide-delete .kept .1 .1 .1 .1 .1 .0) }, omega (arith, o .few), ready-bare g (s .pre .0) (getD (a .words .now) 0 0) _ f (a .words .now) _ _ (w .most) (w .long) (b .drop .ensures) (without (a .number) (tableOf g (a .words .now))) (x .take-rule .ensures (getD (a .words .now) 0 0) (a .number) (tableOf g (a .words .now)) (sound-within g (s .pre .0) (a .words .now) o) (sym (count-is g (s .pre .0) (a .words .now))) (d .decide-delete .ensures .1 (q .if1 .left)) (deleted g (s .pre .0) (a .words .now) (a .number) z .1) (front-stays g (s .pre .0) (a .words .now) h (e .rows-end .result) (e .rows-end .result + (2 + 8 * getD (a .words .now) 0 0) - e .rows-end .result) (b .drop .last .0) f)), ready-room g (s .pre .0) (getD (a .words .now) 0 0) _ f (a .words .now) _ _ (w .most) (w .long) (b .drop .ensures) (without (a .number) (tableOf g (a .words .now))) (x .take-rule .ensures (getD (a .words .now) 0 0) (a .number) (tableOf g (a .words .now)) (sound-within g (s .pre .0) (a .words .now) o) (sym (count-is g (s .pre .0) (a .words .now))) (d .decide-delete .ensures .1 (q .if1 .left)) (deleted g (s .pre .0) (a .words .now) (a .number) z .1) (front-stays g (s .pre .0) (a .words .now) h (e .rows-end .result) (e .rows-end .result + (2 + 8 * getD (a .words .now) 0 0) - e .rows-end .result) (b .drop .last .0) f)) _ (delete-count g (s .pre .0) (a .words .now) (a .number) z) (delete-right g (s .pre .0) (a .words .now) (a .number) z) (delete-cells g (s .pre .0) (a .words .now) (a .number) z)))
-    (λ c. search needs)
-    (λ c. search needs)
-    (λ c. search needs)
+    (λ c. let a = c .before .before .before .before .before in let b = a .before .before .before .before .before .before in let d = b .before .before .before .before in omega (arith, a .words3 .given, b .words2 .given, d .words .given))
+    (λ c. let a = c .before .before .before in let b = a .before .before .before .before .before .before .before .before .before .before .before .before .before .before .before .before .before .before .before .before .before .before .before in omega (arith, a .sets2 .given, b .sets .given))
+    (λ c. let a = c .before in let b = a .before .before .before .before .before .before .before .before .before .before .before .before .before .before .before .before .before .before .before .before .before .before .before in omega (arith, a .ends2 .given, b .ends .given))
     -- returns-2
     (λ c.
     let q = c .before .before .before .before .before .before .before .before .before .before .before .before .before .before .before .before .before .before .before .before .before in

@@ -1,6 +1,5 @@
 -- `change::start` meets its contract: the cells are emptied, the front is written, the tree is planted.
 -- Assumes nothing.
-use borrow.Author.Needs.{needs}
 use borrow.Author.Tests.{not-true, not-false}
 use mathlib.Core.Path.{refl, sym, _∙_}
 use mathlib.Core.List.{[]}
@@ -20,21 +19,21 @@ pub start-spec : {M : Type 1} → statement M
 start-spec =
     tie.close
     (tie.spec
-    (λ c κs. search needs)
-    (λ c. search needs)
+    (λ c κs. omega (arith, c .before .before .before .before .before .pre))
+    (λ c. omega arith)
     -- returns
     (λ c.
     let s = c .before .before .before .before .before .before .before in
     let a = s .args in
     start-refused (kindOf (a .tops .now) (a .shape)) (a .words .now) (a .c) (a .action) (sym (c .before .room-for .ensures) ∙ not-true _ (c .if1 .taken)))
-    (λ c κs. search needs)
-    (λ c. search needs)
-    (λ c. search needs)
-    (λ c. search needs)
-    (λ c. search needs)
-    (λ c. search needs)
-    (λ c. search needs)
-    (λ c. search needs)
+    (λ c κs. omega (arith, c .before .before .before .before .before .before .before .pre))
+    (λ c. omega (arith, c .rows-end .ensures))
+    (λ c. omega (arith, c .before .before .before .before .before .before .before .before .good))
+    (λ c. omega (arith, c .before .before .before .before .before .before .before .before .good))
+    (λ c. omega (arith, c .rows-end .ensures, c .before .before .before .before .before .before .before .before .good))
+    (λ c. omega (arith, c .rows-end .ensures))
+    (λ c. omega arith)
+    (λ c. omega arith)
     -- part-clear-end
     (λ c.
     let e = c in
@@ -105,9 +104,9 @@ start-spec =
     let x = c .before .before .before .before .before in
     let g = (kindOf (a .tops .now) (a .shape)) in
     (s .pre .0, s .pre .1, omega arith, ready-bare g (s .pre .0) (a .c) _ f (a .words .now) _ _ (w .most) (w .long) (d .clear .ensures) (record { action = a .action; rules = [] }) (x .fresh .ensures), ready-room g (s .pre .0) (a .c) _ f (a .words .now) _ _ (w .most) (w .long) (d .clear .ensures) (record { action = a .action; rules = [] }) (x .fresh .ensures) 0 refl (fresh-within g (a .action)) (omega (arith, default-cells g (a .action), w .least))))
-    (λ c. search needs)
-    (λ c. search needs)
-    (λ c. search needs)
+    (λ c. let a = c .before .before .before .before .before in let b = a .before .before .before .before .before .before in let d = b .before .before .before .before in omega (arith, a .words3 .given, b .words2 .given, d .words .given))
+    (λ c. omega (arith, c .before .before .before .sets .given))
+    (λ c. omega (arith, c .before .ends .given))
     -- returns-2
     (λ c.
     let e = c .before .before .before .before .before .before .before .before .before .before .before .before .before .before .before .before .before .before in

@@ -16,16 +16,16 @@ pub insert-into-spec : {M : Type 1} → statement M
 insert-into-spec =
     tie.close
     (tie.spec
-    (λ c. search needs)
-    (λ c κs. search needs)
+    (λ c. omega (arith, c .before .before .before .before .before .before .pre))
+    (λ c κs. omega arith)
     -- 1
     (λ c.
     let s = c .before .before .before .before .before .before .before .before in
     let a = s .args in
     let r = c .refuse .ensures .0 in
     (r ∙ into-1 (kindOf (a .tops .now) (a .shape)) (a .n) (a .c) (a .rows .now) (a .row .now) (s .pre .0) (s .pre .2) (c .before .if1 .taken), λ z. absurd (omega (arith, r, z))))
-    (λ c κs. search needs)
-    (λ c κs. search needs)
+    (λ c κs. omega (arith, c .before .before .before .before .before .before .before .pre))
+    (λ c κs. omega arith)
     -- 2
     (λ c.
     let e1 = c .before .before .before in
@@ -35,7 +35,7 @@ insert-into-spec =
     (r ∙ into-2 (kindOf (a .tops .now) (a .shape)) (a .n) (a .c) (a .rows .now) (a .row .now) (s .pre .0) (s .pre .2) (e1 .if1 .left) _ (c .before .before .right .ensures) (not-true _ (c .before .if2 .taken)), λ z. absurd (omega (arith, r, z))))
     (λ c κs. search needs)
     (λ c κs. search needs)
-    (λ c κs. search needs)
+    (λ c κs. omega arith)
     -- 3
     (λ c.
     let e3 = c .before in
@@ -45,7 +45,7 @@ insert-into-spec =
     let a = s .args in
     let r = c .refuse3 .ensures .0 in
     (r ∙ into-3 (kindOf (a .tops .now) (a .shape)) (a .n) (a .c) (a .rows .now) (a .row .now) (s .pre .0) (s .pre .2) (e1 .if1 .left) _ (e2 .before .right .ensures) (not-false _ (e2 .if2 .left)) (sym (e3 .before .stands-behind .ensures) ∙ e3 .if3 .taken), λ z. absurd (omega (arith, r, z))))
-    (λ c κs. search needs)
+    (λ c κs. omega arith)
     -- 5
     (λ c.
     let e4 = c .before in
@@ -56,7 +56,7 @@ insert-into-spec =
     let a = s .args in
     let r = c .refuse4 .ensures .0 in
     (r ∙ into-5 (kindOf (a .tops .now) (a .shape)) (a .n) (a .c) (a .rows .now) (a .row .now) (s .pre .0) (s .pre .2) (e1 .if1 .left) _ (e2 .before .right .ensures) (not-false _ (e2 .if2 .left)) (sym (e3 .before .stands-behind .ensures) ∙ e3 .if3 .left) (e4 .if4 .taken), λ z. absurd (omega (arith, r, z))))
-    (λ c. search needs)
+    (λ c. omega (arith, c .before .before .before .before .before .before .before .before .before .before .before .before .before .before .pre))
     -- fits-requires
     (λ c κs.
     let e4 = c .before .before in
@@ -67,9 +67,9 @@ insert-into-spec =
     let a = s .args in
     let h = s .pre .0 .rowed .shaped in
     (omega (arith, e4 .if4 .left, h .few), e3 .before .before .before2 .ensures .1, s .pre .1, omega (arith, h .ends, h .narrow), h .narrow, omega (arith, s .pre .0 .rowed .whole, row-starts (a .shape .width) (a .shape .most + 1) 513 (omega (arith, h .few)), h .narrow), scratch-few (suc (suc (a .n))) (s .pre .3) (omega (arith, e4 .if4 .left))))
-    (λ c κs. search needs)
-    (λ c. search needs)
-    (λ c. search needs)
+    (λ c κs. omega arith)
+    (λ c. omega (arith, c .before .before .before .before .before .sets .given))
+    (λ c. omega (arith, c .before .before .before .ends .given))
     -- 6
     (λ c.
     let e5 = c .before in
@@ -81,8 +81,8 @@ insert-into-spec =
     let a = s .args in
     let r = c .refuse5 .ensures .0 in
     (r ∙ into-6 (kindOf (a .tops .now) (a .shape)) (a .n) (a .c) (a .rows .now) (a .row .now) (s .pre .0) (s .pre .2) (e1 .if1 .left) _ (e2 .before .right .ensures) (not-false _ (e2 .if2 .left)) (sym (e3 .before .stands-behind .ensures) ∙ e3 .if3 .left) (e4 .if4 .left) _ (e3 .before .before .before2 .ensures .0) (e5 .before .before .before .before .before .fits2 .ensures) (e5 .if5 .taken), λ z. absurd (omega (arith, r, z))))
-    (λ c. search needs)
-    (λ c. search needs)
+    (λ c. omega (arith, c .before .before .before .before .sets .given))
+    (λ c. omega (arith, c .before .before .ends .given))
     -- 0
     (λ c.
     let e4 = c .before .before .before .before .before .before .before .before in

@@ -1,6 +1,5 @@
 -- `depths::worst_in` meets its contract: 9 where the image check fails, and else what the search over its rules tells.
 -- Assumes nothing.
-use borrow.Author.Needs.{needs}
 use borrow.Author.Tests.{not-true, not-false}
 use Prim.Native.Nat.{ℕ, suc}
 use mathlib.Core.Path.{_≡_, sym, _∙_}
@@ -54,22 +53,22 @@ pub worst-in-spec : {M : Type 1} → statement M
 worst-in-spec =
     tie.close
     (tie.spec
-    (λ c κs. search needs)
-    (λ c. search needs)
-    (λ c. search needs)
+    (λ c κs. omega (arith, c .before .before .before .before .before .before .before .pre))
+    (λ c. omega (arith, c .before .before .before .before .sets .given))
+    (λ c. omega (arith, c .before .before .ends .given))
     -- a refusal
     (λ c. let z = asked c in says-9 (kind z) (words z) (failed c) _)
-    (λ c. search needs)
-    (λ c κs. search needs)
-    (λ c. search needs)
+    (λ c. omega (arith, c .struct-known .given))
+    (λ c κs. omega (arith, c .before .before .before .before .before .before .before .before .before .before .before .before .before .before .pre))
+    (λ c. omega (arith, c .rows-end .ensures))
     -- shared-slice-read-n
     (λ c. omega (arith, sound (c .before .before .before) .long))
-    (λ c. search needs)
-    (λ c. search needs)
-    (λ c. search needs)
+    (λ c. omega (arith, c .before .rows-end .ensures))
+    (λ c. omega (arith, c .before .rows-end .ensures))
+    (λ c. omega (arith, c .before .rows-end .ensures))
     -- part-blocks-of-end
     (λ c. omega (arith, sound (c .before .before .before) .long, c .before .rows-end .ensures .0))
-    (λ c. search needs)
+    (λ c. omega (arith, c .before .before .before .before .before .before .before .before .before .before .before .before .before .before .before .before .before .pre))
     -- blocks-of-requires
     (λ c κs.
     let e = c .before .before .before .before .before .before .before in
@@ -78,9 +77,9 @@ worst-in-spec =
     let b = z .check-in .kept in
     let g = scratch-few (suc (getD (words z) 1 0)) (start z .pre .1) (omega (arith, sound e .few)) in
     (omega (arith, sound e .few, h .few), omega (arith, h .ends, h .narrow), h .narrow, record { places = omega (arith, g .places, b .1 .1 .1 .0); room = omega (arith, g .room, b .1 .1 .1 .1 .0) }, start z .pre .2))
-    (λ c. search needs)
-    (λ c. search needs)
-    (λ c. search needs)
+    (λ c. let a = c .before .before .before .before .before in let b = a .before .before .before .before .before .before .before .before .before .before .before .before .before in omega (arith, a .sets2 .given, b .sets .given))
+    (λ c. let a = c .before .before .before in let b = a .before .before .before .before .before .before .before .before .before .before .before .before .before in omega (arith, a .ends2 .given, b .ends .given))
+    (λ c. omega (arith, c .before .out .given))
     -- the most blocks
     (λ c.
     let h = c .before .before .before .before .before .before in

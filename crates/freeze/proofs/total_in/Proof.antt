@@ -1,6 +1,5 @@
 -- `freeze::total_in` meets its contract: 9 where the check fails, and else the front and the blocks that were counted.
 -- Assumes nothing.
-use borrow.Author.Needs.{needs}
 use borrow.Author.Tests.{not-true, not-false}
 use Prim.Native.Nat.{ℕ, _≤_}
 use mathlib.Core.Path.{_≡_, refl, sym, _∙_}
@@ -54,13 +53,13 @@ pub total-in-spec : {M : Type 1} → statement M
 total-in-spec =
     tie.close
     (tie.spec
-    (λ c κs. search needs)
-    (λ c. search needs)
-    (λ c. search needs)
+    (λ c κs. omega (arith, c .before .before .before .before .before .before .pre))
+    (λ c. omega (arith, c .before .before .before .before .sets .given))
+    (λ c. omega (arith, c .before .before .ends .given))
     -- a refusal
     (λ c. let z = c .before .before .before .before .before in total-9 (kind z) (words z) (sym (z .check .ensures) ∙ not-true _ (c .if1 .taken)))
-    (λ c κs. search needs)
-    (λ c. search needs)
+    (λ c κs. omega (arith, c .before .before .before .before .before .before .before .before .before .before .before .before .pre))
+    (λ c. omega (arith, c .rows-end .ensures))
     -- shared-slice-read-c
     (λ c. omega (arith, wide (c .before .before) .long))
     -- cast-end, mul-end, add-end, add-end-2
@@ -68,25 +67,25 @@ total-in-spec =
     (λ c. omega (arith, wide (c .before .before) .most))
     (λ c. omega (arith, wide (c .before .before) .most))
     (λ c. omega (arith, wide (c .before .before) .most, c .before .rows-end .ensures .1))
-    (λ c. search needs)
-    (λ c. search needs)
-    (λ c. search needs)
+    (λ c. omega (arith, c .before .rows-end .ensures))
+    (λ c. omega arith)
+    (λ c. omega arith)
     -- part-count-end
     (λ c. omega (arith, wide (c .before .before) .long, c .before .rows-end .ensures .0))
-    (λ c. search needs)
+    (λ c. omega (arith, c .before .before .before .before .before .before .before .before .before .before .before .before .before .before .before .pre))
     -- count-requires
     (λ c κs.
     let r = c .before .before in
     let e = r .before in
     let f = checked e in
     (part-here (cellsIn (words f)) _ (words f) (omega (arith, wide e .long, r .rows-end .ensures .0)), wide e .most, omega (arith, shaped f .ends, shaped f .narrow), total-small (kind f) (shaped f) (words f) (passed e) _ (r .rows-end .ensures .0) refl))
-    (λ c. search needs)
+    (λ c. omega (arith, c .before .before .before .rows-end .ensures))
     -- mul-t20, add-t19, cast-t16
     (λ c. omega (arith, few c))
     (λ c. omega (arith, few c, c .before .before .before .rows-end .ensures .1))
     (λ c. omega (arith, few c, c .before .before .before .rows-end .ensures .1))
-    (λ c. search needs)
-    (λ c. search needs)
+    (λ c. omega (arith, c .before .before .before .before .before .before .before .before .sets .given))
+    (λ c. omega (arith, c .before .before .before .before .before .before .ends .given))
     -- the total
     (λ c.
     let r = c .before .before .before in

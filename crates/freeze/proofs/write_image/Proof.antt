@@ -1,6 +1,5 @@
 -- `freeze::write_image` meets its contract: the front of the image, and behind it the blocks of the tree that the store's cells give.
 -- Assumes nothing.
-use borrow.Author.Needs.{needs}
 use mathlib.Core.Path.{_≡_, refl}
 use mathlib.Core.Bool.{true}
 use mathlib.Core.List.{List}
@@ -51,9 +50,9 @@ pub write-image-spec : {M : Type 1} → statement M
 write-image-spec =
     tie.close
     (tie.spec
-    (λ c κs. search needs)
-    (λ c. search needs)
-    (λ c. search needs)
+    (λ c κs. omega (arith, c .before .before .before .pre))
+    (λ c. omega (arith, c .rows-end .ensures))
+    (λ c. omega (arith, c .rows-end .ensures))
     -- shared-slice-read-c
     (λ c. omega (arith, wide (c .before) .long))
     -- cast-end, mul-end, add-end, add-end-2
@@ -61,7 +60,7 @@ write-image-spec =
     (λ c. omega (arith, wide (c .before) .most))
     (λ c. omega (arith, wide (c .before) .most))
     (λ c. omega (arith, wide (c .before) .most, c .before .rows-end .ensures .1))
-    (λ c. search needs)
+    (λ c. omega (arith, c .before .rows-end .ensures, c .before .before .before .before .before .pre))
     -- the front's part of the image, and of the words
     (λ c. let r = c .before .before in front-taken (kind r) (shaped r) (words r) (passed r) _ (ending r) (image r) (fits r))
     (λ c. let r = c .before .before .before in words-taken (kind r) (shaped r) (words r) (passed r) _ (ending r) (image r) (fits r))
@@ -69,16 +68,16 @@ write-image-spec =
     (λ c κs.
     let r = c .before .before .before in
     (front-room (kind r) (shaped r) (words r) (passed r) _ (ending r) (image r) (fits r), front-some (kind r) (shaped r) (words r) (passed r) _ (ending r) (image r) (fits r)))
-    (λ c. search needs)
-    (λ c. search needs)
-    (λ c. search needs)
-    (λ c. search needs)
-    (λ c. search needs)
-    (λ c. search needs)
-    (λ c. search needs)
+    (λ c. omega (arith, c .before .before .before .before .before .before .rows-end .ensures))
+    (λ c. let a = c .before in let b = a .before .before .before .before .before in let d = b .before .before .before .before in omega (arith, a .image .given, b .rows-end .ensures, d .pre))
+    (λ c. let a = c .before in let b = a .before .before .before .before .before in let d = b .before .before .before .before in omega (arith, a .image .given, b .rows-end .ensures, d .pre))
+    (λ c. omega arith)
+    (λ c. omega (arith, c .before .before .before .before .before .before .before .rows-end .ensures))
+    (λ c. omega arith)
+    (λ c. omega arith)
     -- part-write-end-2
     (λ c. let r = c .before .before .before .before .before .before .before in omega (arith, wide r .long, ending r))
-    (λ c. search needs)
+    (λ c. omega (arith, c .before .before .before .before .before .before .before .before .before .before .before .before .pre))
     -- write-requires
     (λ c κs.
     let r = c .before .before .before .before .before .before .before .before in
@@ -90,7 +89,7 @@ write-image-spec =
       total-small (kind r) (shaped r) (words r) (passed r) _ (ending r) refl,
       named-part (kind r) (shaped r) (words r) (passed r) _ (ending r) (image r) (fits r),
     ))
-    (λ c. search needs)
+    (λ c. omega (arith, c .before .image2 .given, c .before .before .before .before .before .before .image .given))
     -- returns
     (λ c.
     let r = c .before .before .before .before .before .before .before .before .before .before .before in

@@ -23,13 +23,13 @@ seek-spec =
     Inv-loop
     μ-loop
     (λ c. (search needs, omega arith, simp sub-zero))
-    (λ c. search needs)
+    (λ c. omega (arith, c .before .loop .inv))
     -- lost: a link outside
     (λ c. sym (c .before .before .loop .inv .2 ∙ seek-out _ _ _ _ _ (search needs)))
-    (λ c. search needs)
-    (λ c. search needs)
+    (λ c. omega (arith, c .before .before .loop .inv))
+    (λ c. omega (arith, c .before .before .loop .inv))
     (λ c κs. omega arith)
-    (λ c. search needs)
+    (λ c. omega (arith, c .before .before .before .loop .inv))
     (λ c κs. omega arith)
     -- lost: all ends are below the value
     (λ c.
@@ -39,15 +39,15 @@ seek-spec =
     let a = one .before .before .before .before .before .args in
     let j = rank-halves (a .blocks .now) (l .k) (a .value) _ _ (one .rank .ensures .0) (two .rank2 .ensures .0) in
     sym (l .inv .2 ∙ seek-all _ _ _ (7 - l .reads) _ _ _ (omega arith) (omega arith) j (all-eight _ _ (c .if2 .taken))))
-    (λ c. search needs)
-    (λ c. search needs)
-    (λ c. search needs)
-    (λ c. search needs)
+    (λ c. omega (arith, c .before .rank2 .ensures, c .before .before .rank .ensures))
+    (λ c. omega (arith, c .before .rank2 .ensures, c .before .before .rank .ensures))
+    (λ c. omega (arith, c .before .rank2 .ensures, c .before .before .rank .ensures, c .before .before .before .before .before .loop .inv))
+    (λ c. omega (arith, c .before .rank2 .ensures, c .before .before .rank .ensures, c .before .before .before .before .before .loop .inv))
     (λ c.
     let two = c .before .before in
     let one = two .before in
     omega (arith, not-eight _ _ (one .rank .ensures .1) (two .rank2 .ensures .1) (c .before .if2 .left)))
-    (λ c. search needs)
+    (λ c. omega (arith, c .before .before .before .before .before .before .loop-test .taken))
     -- down
     (λ c.
     let two = c .before .before .before in
@@ -56,8 +56,8 @@ seek-spec =
     let a = one .before .before .before .before .before .args in
     let j = rank-halves (a .blocks .now) (l .k) (a .value) _ _ (one .rank .ensures .0) (two .rank2 .ensures .0) in
     sym (l .inv .2 ∙ seek-down _ _ _ (7 - l .reads) _ _ _ (omega arith) (omega arith) j (not-eight _ _ (one .rank .ensures .1) (two .rank2 .ensures .1) (c .before .before .if2 .left)) (search needs)))
-    (λ c. search needs)
-    (λ c. search needs)
+    (λ c. omega (arith, c .before .before .before .before .before .before .loop-test .taken))
+    (λ c. omega (arith, c .before .before .before .before .before .before .loop-test .taken))
     -- the next block
     (λ c.
     let two = c .before .before .before in

@@ -1,6 +1,5 @@
 -- `live::dead_in` meets its contract: the refusals of reading, and then what the search tells.
 -- Assumes nothing.
-use borrow.Author.Needs.{needs}
 use Prim.Native.Nat.{ℕ, _≤_}
 use mathlib.Core.Path.{_≡_, sym, _∙_}
 use mathlib.Core.List.{List}
@@ -55,15 +54,15 @@ pub dead-in-spec : {M : Type 1} → statement M
 dead-in-spec =
     tie.close
     (tie.spec
-    (λ c κs. search needs)
-    (λ c. search needs)
-    (λ c. search needs)
+    (λ c κs. omega (arith, c .before .before .before .before .before .before .before .pre))
+    (λ c. omega (arith, c .before .before .before .before .sets .given))
+    (λ c. omega (arith, c .before .before .ends .given))
     -- a refusal
     (λ c. let z = c .before .before .before .before .before in says-refused (kind z) (words z) (number z) _ (z .find .ensures .0) (c .if1 .taken) _)
     -- place-requires
     (λ c κs. (shaped (found c), there c))
-    (λ c κs. search needs)
-    (λ c. search needs)
+    (λ c κs. omega (arith, c .before .before .before .before .before .before .before .before .before .before .before .before .before .before .pre))
+    (λ c. omega (arith, c .rows-end .ensures))
     -- shared-slice-read-c
     (λ c. omega (arith, wide (c .before .before .before) .long))
     -- cast-end, mul-end, add-end, add-end-2
@@ -71,21 +70,21 @@ dead-in-spec =
     (λ c. omega (arith, wide (c .before .before .before) .most))
     (λ c. omega (arith, wide (c .before .before .before) .most))
     (λ c. omega (arith, wide (c .before .before .before) .most, c .before .rows-end .ensures .1))
-    (λ c. search needs)
-    (λ c. search needs)
-    (λ c. search needs)
+    (λ c. omega (arith, c .before .rows-end .ensures))
+    (λ c. omega arith)
+    (λ c. omega arith)
     -- part-reach-end
     (λ c. omega (arith, wide (c .before .before .before) .long, c .before .rows-end .ensures .0))
-    (λ c. search needs)
+    (λ c. omega (arith, c .before .before .before .before .before .before .before .before .before .before .before .before .before .before .before .before .before .pre))
     -- reach-requires
     (λ c κs.
     let r = c .before .before .before in
     let e = r .before .before in
     let f = found e in
     (part-here (cellsIn (words f)) _ (words f) (omega (arith, wide e .long, r .rows-end .ensures .0)), wide e .most, start f .pre .2))
-    (λ c. search needs)
-    (λ c. search needs)
-    (λ c. search needs)
+    (λ c. omega (arith, c .before .before .before .before .before .before .before .before .before .before .before .before .before .sets .given))
+    (λ c. omega (arith, c .before .before .before .before .before .before .before .before .before .before .before .ends .given))
+    (λ c. omega (arith, c .before .before .out .given))
     -- it is live
     (λ c.
     let h = c .before .before .before in
@@ -93,9 +92,9 @@ dead-in-spec =
     let e = r .before .before in
     let f = found e in
     says-live (kind f) (shaped f) (words f) (number f) (there e) _ (r .rows-end .ensures .0) _ (r .before .place .ensures) _ _ _ (h .reach .ensures) _ (e .if1 .left) (read e) (small f) (c .if2 .taken))
-    (λ c. search needs)
-    (λ c. search needs)
-    (λ c. search needs)
+    (λ c. omega (arith, c .before .before .before .before .before .before .before .before .before .before .before .before .before .sets .given))
+    (λ c. omega (arith, c .before .before .before .before .before .before .before .before .before .before .before .ends .given))
+    (λ c. omega (arith, c .before .before .out .given))
     -- it is dead
     (λ c.
     let h = c .before .before .before in

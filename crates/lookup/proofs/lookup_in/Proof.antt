@@ -12,28 +12,28 @@ pub lookup-in-spec : {M : Type 1} → statement M
 lookup-in-spec =
     tie.close
     (tie.spec
-    (λ c κs. search needs)
+    (λ c κs. omega arith)
     -- fewer than three words
     (λ c. let s = c .before .before .before .before .before in let a = s .args in c .refuse .ensures ∙ no-word (kindOf (a .tops .now) (a .shape)) (a .words .now) (a .values .now) (s .pre .0) (search needs))
-    (λ c. search needs)
-    (λ c κs. search needs)
+    (λ c. omega (arith, c .before .if1 .left))
+    (λ c κs. omega arith)
     -- another kind
     (λ c. let s = c .before .before .before .before .before .before .before .before in let a = s .args in c .refuse2 .ensures ∙ no-kind (kindOf (a .tops .now) (a .shape)) (a .words .now) (a .values .now) (search needs))
-    (λ c. search needs)
-    (λ c. search needs)
-    (λ c κs. search needs)
+    (λ c. omega (arith, c .before .before .before .before .if1 .left))
+    (λ c. omega (arith, c .before .before .before .before .before .before .before .before .pre))
+    (λ c κs. omega arith)
     -- c too low
     (λ c. let s = c .before .before .before .before .before .before .before .before .before .before in let a = s .args in c .refuse3 .ensures ∙ few-cells (kindOf (a .tops .now) (a .shape)) (a .words .now) (a .values .now) (search needs) (search needs))
-    (λ c κs. search needs)
+    (λ c κs. omega arith)
     -- c too high
     (λ c. let s = c .before .before .before .before .before .before .before .before .before .before .before in let a = s .args in c .refuse4 .ensures ∙ many-cells (kindOf (a .tops .now) (a .shape)) (a .words .now) (a .values .now) (search needs) (search needs) (search needs))
-    (λ c κs. search needs)
-    (λ c. search needs)
-    (λ c. search needs)
-    (λ c. search needs)
-    (λ c. search needs)
-    (λ c. search needs)
-    (λ c κs. search needs)
+    (λ c κs. omega (arith, c .before .before .before .before .before .before .before .before .before .before .pre))
+    (λ c. omega (arith, c .rows-end .ensures))
+    (λ c. omega (arith, c .before .if4 .left))
+    (λ c. omega (arith, c .before .if4 .left))
+    (λ c. omega (arith, c .before .if4 .left))
+    (λ c. omega (arith, c .rows-end .ensures, c .before .if4 .left))
+    (λ c κs. omega arith)
     -- too few words
     (λ c. let s = c .before .before .before .before .before .before .before .before .before .before .before .before .before in let a = s .args in c .refuse5 .ensures ∙ few-words (kindOf (a .tops .now) (a .shape)) (a .words .now) (a .values .now) (search needs) (search needs) (search needs) (omega (arith, c .before .if5 .taken, c .before .before .rows-end .ensures .0)))
     (λ c κs. let s = c .before .before .before .before .before .before .before .before .before .before .before .before in let a = s .args in (s .pre .0, refl, search needs, omega (arith, c .if5 .left, c .before .rows-end .ensures .0), s .pre .1))

@@ -1,6 +1,5 @@
 -- `revise::edit_list` meets its contract: what is decided, and then the three steps of an edit, with all edits of the list done in the front.
 -- Assumes nothing.
-use borrow.Author.Needs.{needs}
 use mathlib.Core.Path.{sym, ap, _∙_}
 use Prim.Native.Nat.{_+_, _-_, _*_}
 use native.Mathlib.Omega.{arith}
@@ -25,11 +24,11 @@ pub edit-list-spec : {M : Type 1} → statement M
 edit-list-spec =
     tie.close
     (tie.spec
-    (λ c κs. search needs)
-    (λ c. search needs)
-    (λ c. search needs)
-    (λ c. search needs)
-    (λ c. search needs)
+    (λ c κs. omega (arith, c .before .before .before .before .before .before .before .before .before .before .pre))
+    (λ c. omega arith)
+    (λ c. omega (arith, c .before .before .before .before .before .before .before .set .given))
+    (λ c. omega (arith, c .before .before .before .before .before .sets .given))
+    (λ c. omega (arith, c .before .before .before .ends .given))
     -- refused
     (λ c.
     let d = c .before .before .before .before .before .before .before .before in
@@ -48,8 +47,8 @@ edit-list-spec =
     let o = sound g (s .pre .0) (a .words .now) (t .passed) in
     let w = sound-room g (s .pre .0) (a .words .now) o in
     omega (arith, w .long))
-    (λ c κs. search needs)
-    (λ c. search needs)
+    (λ c κs. omega (arith, c .before .before .before .before .before .before .before .before .before .before .before .before .before .before .before .before .before .before .before .before .pre))
+    (λ c. omega (arith, c .rows-end .ensures))
     -- cast-end
     (λ c.
     let e = c in
@@ -110,9 +109,9 @@ edit-list-spec =
     let w = sound-room g (s .pre .0) (a .words .now) o in
     let f = e .rows-end .ensures .0 in
     omega (arith, w .most, e .rows-end .ensures .1))
-    (λ c. search needs)
-    (λ c. search needs)
-    (λ c. search needs)
+    (λ c. omega (arith, c .rows-end .ensures))
+    (λ c. omega arith)
+    (λ c. omega arith)
     -- part-drop-end
     (λ c.
     let e = c in
@@ -128,7 +127,7 @@ edit-list-spec =
     let w = sound-room g (s .pre .0) (a .words .now) o in
     let f = e .rows-end .ensures .0 in
     omega (arith, f, w .long))
-    (λ c. search needs)
+    (λ c. omega (arith, c .before .before .before .before .before .before .before .before .before .before .before .before .before .before .before .before .before .before .before .before .before .before .pre))
     -- drop-requires
     (λ c κs.
     let e = c .before in
@@ -258,10 +257,10 @@ edit-list-spec =
     let n = count-before g (getD (a .words .now) 0 0) T _ _ y in
     let r = all-right g (getD (a .words .now) 0 0) (tableOf g (a .words .now)) es (u .right) (t .taken) in
     (s .pre .0, record { places = omega (arith, s .pre .2 .places, d .decide .kept .1 .1 .1 .1 .1 .1 .0); room = omega (arith, s .pre .2 .room, d .decide .kept .1 .1 .1 .1 .1 .1 .1 .0) }, omega (arith, n, from-within g T r .fits), ready-bare g (s .pre .0) (getD (a .words .now) 0 0) _ f (a .words .now) _ _ (w .most) (w .long) (b .drop .ensures) T y, ready-room g (s .pre .0) (getD (a .words .now) 0 0) _ f (a .words .now) _ _ (w .most) (w .long) (b .drop .ensures) T y _ n r (all-fits g (getD (a .words .now) 0 0) (tableOf g (a .words .now)) es (sound-most g (s .pre .0) (a .words .now) o) (t .taken))))
-    (λ c. search needs)
-    (λ c. search needs)
-    (λ c. search needs)
-    (λ c. search needs)
+    (λ c. let a = c .before .before .before .before .before in let b = a .before .before .before .before .before .before .before in let d = b .before .before .before .before in omega (arith, a .words3 .given, b .words2 .given, d .words .given))
+    (λ c. omega (arith, c .before .before .before .before .before .before .before .before .before .before .before .before .before .before .before .before .before .before .before .before .before .before .before .before .before .before .before .before .set .given))
+    (λ c. let a = c .before .before .before in let b = a .before .before .before .before .before .before .before .before .before .before .before .before .before .before .before .before .before .before .before .before .before .before .before in omega (arith, a .sets2 .given, b .sets .given))
+    (λ c. let a = c .before in let b = a .before .before .before .before .before .before .before .before .before .before .before .before .before .before .before .before .before .before .before .before .before .before .before in omega (arith, a .ends2 .given, b .ends .given))
     -- done
     (λ c.
     let e = c .before .before .before .before .before .before .before .before .before .before .before .before .before .before .before .before .before .before .before in

@@ -35,8 +35,8 @@ first-refusal-spec =
     (tie.spec
     Inv-loop
     μ-loop
-    (λ c. search needs)
-    (λ c. search needs)
+    (λ c. omega (arith, c .struct-known .given))
+    (λ c. omega (arith, c .struct-known .given))
     -- places-requires
     (λ c κs.
     let h = c .before .before .before .before .before .before .before .before .pre in
@@ -61,10 +61,10 @@ first-refusal-spec =
       },
       h .1,
     ))
-    (λ c. search needs)
-    (λ c. search needs)
-    (λ c. search needs)
-    (λ c. search needs)
+    (λ c. let a = c .before .before .before .before .before .before .before .before .before .before .before .before in let b = a .before .before .before .before .before .before .before .before .before .before .before .before .before in omega (arith, a .loop-test .taken, b .good))
+    (λ c. let a = c .before .before .before .before .before .before .before .before in let b = a .before .before .before .before .before in let d = b .before .before in omega (arith, a .edit .kept, b .loop .inv, d .set .given))
+    (λ c. let a = c .before .before .before .before .before .before .before .before in let b = a .before .before .before .before .before in omega (arith, a .edit .kept, b .loop .inv))
+    (λ c. let a = c .before .before .before .before .before .before .before .before in let b = a .before .before .before .before .before in omega (arith, a .edit .kept, b .loop .inv))
     -- refused
     (λ c.
     let e = c .before .before .before .before .before .before .before .before in
@@ -78,8 +78,8 @@ first-refusal-spec =
     let l = b .before .loop in
     let s = b .before .before .before .before .before .before .before .before .before .before .before .before .before in
     omega (arith, l .inv .1, row-starts (s .args .shape .width + 1) (l .i) 32 (omega (arith, b .loop-test .taken, s .pre .2)), s .pre .0 .rowed .shaped .narrow))
-    (λ c. search needs)
-    (λ c. search needs)
+    (λ c. let a = c .before .before .before .before .before .before .before .before .before .before .before .before in let b = a .before .before .before .before .before .before .before .before .before .before .before .before .before in omega (arith, a .loop-test .taken, b .good))
+    (λ c. omega (arith, c .before .before .before .before .before .before .before .before .before .before .before .before .loop-test .taken))
     -- loop-again
     (λ c.
     let e = c .before .before .before .before .before .before .before .before in
@@ -94,9 +94,9 @@ first-refusal-spec =
       search needs,
       going-on (kindOf (a .tops .now) (a .shape)) (a .c) (a .rows .now ++ a .edits .now) (l .m) (l .set) (a .edits .now) (a .shape .width + 1) (a .count) (l .i) (l .at) _ (l .inv .6) (b .loop-test .taken) _ _ _ (e .edit .ensures .1) (c .if1 .left),
     ))
-    (λ c. search needs)
-    (λ c. search needs)
-    (λ c. search needs)
+    (λ c. omega (arith, c .before .loop .inv, c .before .before .before .set .given))
+    (λ c. omega (arith, c .before .loop .inv))
+    (λ c. omega (arith, c .before .loop .inv))
     -- the end
     (λ c.
     let l = c .before .loop in

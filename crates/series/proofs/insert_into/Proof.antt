@@ -1,6 +1,5 @@
 -- `series::insert_into` meets its contract: one law for each answer.
 -- Assumes nothing.
-use borrow.Author.Needs.{needs}
 use native.Mathlib.Omega.{arith}
 use Prim.Native.Nat.{suc, _+_}
 use Rattle.model.proofs.Grid.{row-starts}
@@ -14,14 +13,14 @@ pub insert-into-spec : {M : Type 1} → statement M
 insert-into-spec =
     tie.close
     (tie.spec
-    (λ c κs. search needs)
+    (λ c κs. omega arith)
     -- 1
     (λ c.
     let w = c .before in
     let a = w .before .before .before .before .before .before .before .args in
     (λ z. absurd (omega arith), λ t h. (put-1 (kindOf (a .tops .now) (a .shape)) (a .rows .now) (a .more .now) (a .row) (a .n) (a .c) _ (w .word .ensures) (c .if1 .taken) t, λ z. absurd (omega arith))))
-    (λ c. search needs)
-    (λ c κs. search needs)
+    (λ c. omega (arith, c .before .before .before .before .before .before .before .before .pre))
+    (λ c κs. omega (arith, c .before .before .before .before .before .before .before .before .pre))
     -- 2
     (λ c.
     let e2 = c .before in
@@ -29,9 +28,9 @@ insert-into-spec =
     let w = e1 .before in
     let a = w .before .before .before .before .before .before .before .args in
     (λ z. absurd (omega arith), λ t h. (put-2 (kindOf (a .tops .now) (a .shape)) (a .rows .now) (a .more .now) (a .row) (a .n) (a .c) _ (w .word .ensures) (e1 .if1 .left) _ (e2 .right .ensures) (c .if2 .taken) t, λ z. absurd (omega arith))))
-    (λ c κs. search needs)
-    (λ c κs. search needs)
-    (λ c. search needs)
+    (λ c κs. omega (arith, c .before .before .before .before .before .before .before .before .before .before .before .pre))
+    (λ c κs. omega (arith, c .before .before .before .before .before .before .before .before .before .before .before .before .before .pre))
+    (λ c. omega arith)
     -- 3
     (λ c.
     let b = c .before in
@@ -42,8 +41,8 @@ insert-into-spec =
     let a = w .before .before .before .before .before .before .before .args in
     let k = kindOf (a .tops .now) (a .shape) in
     (λ z. absurd (omega arith), λ t h. (put-3 k (a .rows .now) (a .more .now) (a .row) (a .n) (a .c) _ (w .word .ensures) (e1 .if1 .left) _ (e2 .before .right .ensures) (e2 .if2 .left) _ t h (b .stands-behind .ensures .1 k t h (f .before2 .ensures .1 k t h)) (c .if3 .taken), λ z. absurd (omega arith))))
-    (λ c. search needs)
-    (λ c. search needs)
+    (λ c. omega (arith, c .struct-known .given))
+    (λ c. omega arith)
     -- 5
     (λ c.
     let e3 = c .before .before in
@@ -55,15 +54,15 @@ insert-into-spec =
     let a = w .before .before .before .before .before .before .before .args in
     let k = kindOf (a .tops .now) (a .shape) in
     (λ z. absurd (omega arith), λ t h. (put-5 k (a .rows .now) (a .more .now) (a .row) (a .n) (a .c) _ (w .word .ensures) (e1 .if1 .left) _ (e2 .before .right .ensures) (e2 .if2 .left) _ t h (b .stands-behind .ensures .1 k t h (f .before2 .ensures .1 k t h)) (e3 .if3 .left) (c .if4 .taken), λ z. absurd (omega arith))))
-    (λ c. search needs)
-    (λ c. search needs)
+    (λ c. omega (arith, c .before .if4 .left, c .before .before .struct-known .given))
+    (λ c. omega (arith, c .before .before .before .before .before .before .before .before .before .before .before .before .before .before .before .before .before .before .good, c .before .before .before .before .before .before .before .before .before .before .before .before .before .before .before .before .before .before .pre))
     -- cast-put-place
     (λ c.
     let s = c .before .before .before .before .before .before .before .before .before .before .before .before .before .before .before .before .before .before in
     let h = s .pre .0 in
     omega (arith, h .whole, h .near, row-starts (s .args .shape .width) (suc (s .args .shape .most)) 513 (omega (arith, h .shaped .few)), h .shaped .narrow))
-    (λ c κs. search needs)
-    (λ c. search needs)
+    (λ c κs. let a = c .before in let b = a .before .before .before .before .before in let d = b .before .before .before .before .before .before .before .before .before .before .before .before in omega (arith, a .if4 .left, b .before2 .ensures, d .pre))
+    (λ c. omega (arith, c .before .before .before .before .before .if4 .left, c .before .before .before .before .before .before .struct-known .given))
     -- cast-fits
     (λ c. let h = c .before .before .before .before .before .before .before .before .before .before .before .before .before .before .before .before .before .before .before .before .before .before .pre .0 .shaped in omega (arith, h .ends, h .narrow))
     -- fits-requires
@@ -73,9 +72,9 @@ insert-into-spec =
     let s = c .before .before .before .before .before .before .before .before .before .before .before .before .before .before .before .before .before .before .before .before .before .before .before .before in
     let h = s .pre .0 in
     (omega (arith, h .room, e4 .if4 .left, p .put-place .kept .0), s .pre .1, omega (arith, h .shaped .ends, h .shaped .narrow), scratch-few (s .args .n + 2) (h .scratch) (omega (arith, e4 .if4 .left))))
-    (λ c. search needs)
-    (λ c. search needs)
-    (λ c. search needs)
+    (λ c. omega (arith, c .before .before .before .before .before .before .before .before .before .before .set .given))
+    (λ c. omega (arith, c .before .before .before .before .sets .given))
+    (λ c. omega (arith, c .before .before .ends .given))
     -- 6
     (λ c.
     let n = c .before .before .before .before .before in
@@ -90,9 +89,9 @@ insert-into-spec =
     let a = w .before .before .before .before .before .before .before .args in
     let k = kindOf (a .tops .now) (a .shape) in
     (λ z. absurd (omega arith), λ t h. (put-6 k (a .rows .now) (a .more .now) (a .row) (a .n) (a .c) _ (w .word .ensures) (e1 .if1 .left) _ (e2 .before .right .ensures) (e2 .if2 .left) _ t h (b .stands-behind .ensures .1 k t h (f .before2 .ensures .1 k t h)) (e3 .if3 .left) (e4 .if4 .left) _ (f .before2 .ensures .1 k t h) _ (p .put-place .ensures) (n .fits2 .ensures) (c .if5 .taken), λ z. absurd (omega arith))))
-    (λ c. search needs)
-    (λ c. search needs)
-    (λ c. search needs)
+    (λ c. omega (arith, c .before .before .before .before .before .before .before .before .before .before .set .given))
+    (λ c. omega (arith, c .before .before .before .before .sets .given))
+    (λ c. omega (arith, c .before .before .ends .given))
     -- 0
     (λ c.
     let n = c .before .before .before .before .before in

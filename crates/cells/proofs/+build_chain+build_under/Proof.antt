@@ -1,13 +1,12 @@
--- `cells::build_chain` leaves the tree of the rules in the first free cells. It calls itself with one field less, which is the measure. The loop's invariant is `Filled`: below the cells before `k` all stands; the measure is the cells that are left of the run.
+-- `cells::build_chain` and `cells::build_under` leave the tree of the rules in the first free cells. They call each other, and the number of fields left falls: the measures are twice that number, and one more for a chain. The loop's invariant is `Filled`: below the cells before `k` all stands; its measure is the cells that are left of the run.
 -- Assumes nothing.
-use Prim.Native.Nat.{ℕ, _<_, _≤_, _+_, _-_}
+use Prim.Native.Nat.{ℕ, _<_, _≤_, _+_, _*_, _-_}
 use mathlib.Core.Path.{_≡_, refl, sym, _∙_}
 use mathlib.Core.List.{List, append-nil}
 use native.Mathlib.Nat.{pos-of-ne-zero}
 use native.Mathlib.Omega.{arith}
 use lib.ListN.{length, take, drop, length-drop}
 use lib.Seq.{length-take-le}
-use borrow.Author.Needs.{needs}
 use Rattle.model.specs.Rules.{ends, Tree}
 use Rattle.rows.specs.Rows.{fieldAt, treeAt, underAt, Flat}
 use Rattle.rows.proofs.Sets.{tree-step}
@@ -23,7 +22,10 @@ use borrow.Fn.Kinds.{In}
 use borrow.Fn.PlainCycle.{Measures, is, falls, and}
 use Rattle.cells.proofs.build_chain.Reads as build-chain
 use Rattle.cells.proofs.build_chain.Kinds as build-chain-kinds
-use Rattle.cells.proofs.+build_chain.Lts-build_chain as lts
+use Rattle.cells.proofs.+build_chain+build_under.Lts-build_chain as chain-lts
+use Rattle.cells.proofs.build_under.Reads as build-under
+use Rattle.cells.proofs.build_under.Kinds as build-under-kinds
+use Rattle.cells.proofs.+build_chain+build_under.Lts-build_under as under-lts
 use Rattle.cells.proofs.build_leaf.Reads as build-leaf-reads
 use Rattle.cells.proofs.build_one.Reads as build-one-reads
 use Rattle.cells.proofs.build_run.Reads as build-run-reads
@@ -33,20 +35,29 @@ use Rattle.cells.proofs.write_below.Reads as write-below-reads
 use Rattle.rows.proofs.first_place.Reads as first-place-reads
 use Rattle.rows.proofs.flat.Reads as flat-reads
 use Rattle.rows.proofs.high.Reads as high-reads
-use Rattle.cells.proofs.+build_chain.{statement}
-use Rattle.cells.proofs.+build_chain.Tie.{close}
+use Rattle.cells.proofs.+build_chain+build_under.{statement}
+use Rattle.cells.proofs.+build_chain+build_under.Tie.{close}
 
-abbrev μ-build-chain : Measures 3 build-chain-kinds.ps ℕ
-μ-build-chain κs a = a .1 .1 .1 .1 .1 .1 .0
+abbrev μ-chain : Measures 3 build-chain-kinds.ps ℕ
+μ-chain κs a = 2 * a .1 .1 .1 .1 .1 .1 .0 + 1
 
-abbrev at-t : ℕ → In 3 build-chain-kinds.ps
-at-t t = and 3 build-chain-kinds.ps (is 3 build-chain-kinds.ps μ-build-chain t) build-chain.Pre
+abbrev μ-under : Measures 3 build-under-kinds.ps ℕ
+μ-under κs a = 2 * a .1 .1 .1 .1 .1 .1 .0
 
-abbrev below-t : ℕ → In 3 build-chain-kinds.ps
-below-t t = and 3 build-chain-kinds.ps (falls 3 build-chain-kinds.ps _<_ μ-build-chain t) build-chain.Pre
+abbrev chain-at : ℕ → In 3 build-chain-kinds.ps
+chain-at t = and 3 build-chain-kinds.ps (is 3 build-chain-kinds.ps μ-chain t) build-chain.Pre
 
-abbrev callees : ℕ → lts.Claims
-callees t = (
+abbrev chain-below : ℕ → In 3 build-chain-kinds.ps
+chain-below t = and 3 build-chain-kinds.ps (falls 3 build-chain-kinds.ps _<_ μ-chain t) build-chain.Pre
+
+abbrev under-at : ℕ → In 3 build-under-kinds.ps
+under-at t = and 3 build-under-kinds.ps (is 3 build-under-kinds.ps μ-under t) build-under.Pre
+
+abbrev under-below : ℕ → In 3 build-under-kinds.ps
+under-below t = and 3 build-under-kinds.ps (falls 3 build-under-kinds.ps _<_ μ-under t) build-under.Pre
+
+abbrev chain-callees : ℕ → chain-lts.Claims
+chain-callees t = (
   build-leaf-reads.Asked,
   build-leaf-reads.Learnt,
   first-place-reads.Asked,
@@ -59,25 +70,35 @@ callees t = (
   build-one-reads.Learnt,
   write-below-reads.Asked,
   write-below-reads.Learnt,
-  below-t t,
+  chain-below t,
   build-chain.Post,
+  under-below t,
+  build-under.Post,
+)
+
+abbrev under-callees : ℕ → under-lts.Claims
+under-callees t = (
   build-run-reads.Asked,
   build-run-reads.Learnt,
   end-of-reads.Asked,
   end-of-reads.Learnt,
   narrowed-reads.Asked,
   narrowed-reads.Learnt,
+  chain-below t,
+  build-chain.Post,
+  write-below-reads.Asked,
+  write-below-reads.Learnt,
 )
 
-abbrev Inv-loop : lts.InvT-loop
-Inv-loop words₀ base c sets₀ n field left ends₀ high k₀ lowest past words sets ends k = Filled base words₀ words sets₀ sets ends₀ ends n lowest c field left k₀ k
+abbrev Inv-loop : under-lts.InvT-loop
+Inv-loop words₀ base c sets₀ n field left ends₀ k₀ lowest past words sets ends k = Filled base words₀ words sets₀ sets ends₀ ends n lowest c field left k₀ k
 
-abbrev μ-loop : lts.MeasureT-loop
-μ-loop words₀ base c sets₀ n field left ends₀ high k₀ lowest past words sets ends k = past - k
+abbrev μ-loop : under-lts.MeasureT-loop
+μ-loop words₀ base c sets₀ n field left ends₀ k₀ lowest past words sets ends k = past - k
 
 module _ (t : ℕ) where
   abbrev Begun : Type 0
-  Begun = lts.Start (callees t) (at-t t) build-chain.Post Inv-loop μ-loop
+  Begun = chain-lts.Start (chain-callees t) (chain-at t) build-chain.Post
 
   -- the tree that is to be built, and what stands below its only cell
   abbrev whole : Begun → Tree ℕ
@@ -88,7 +109,7 @@ module _ (t : ℕ) where
 
   -- ONE CELL, once it is taken
   abbrev One : Type 0
-  One = lts.After-build-one (callees t) (at-t t) build-chain.Post Inv-loop μ-loop
+  One = chain-lts.After-build-one (chain-callees t) (chain-at t) build-chain.Post
 
   abbrev begun-one : One → Begun
   begun-one o = o .before .before .before .before .before .before .before .before .before .before .before .before .before
@@ -113,50 +134,56 @@ module _ (t : ℕ) where
     built-one a m q s = let b = o .build-one .ensures in one-built m (o .before .before .before .before .before .before .before .before .if1 .left) (flat-one o) s (b .0 .lays) (b .1) ws g below
 
   -- what stands below it: a name in the last field, or a tree
-  leaf-one : (l : lts.After-build-leaf2 (callees t) (at-t t) build-chain.Post Inv-loop μ-loop) → let o = l .before .before .before .before .before in Builds (one-part o) (one-part o) (l .build-leaf2 .result) (begun-one o .args .c) (next-of (begun-one o))
+  leaf-one : (l : chain-lts.After-build-leaf2 (chain-callees t) (chain-at t) build-chain.Post) → let o = l .before .before .before .before .before in Builds (one-part o) (one-part o) (l .build-leaf2 .result) (begun-one o .args .c) (next-of (begun-one o))
   leaf-one l a m q s = built-none _ _ _ _ m (omega (arith, l .before .before .if3 .taken)) (l .build-leaf2 .ensures) s
 
-  tree-one : (r : lts.After-build-chain (callees t) (at-t t) build-chain.Post Inv-loop μ-loop) → let o = r .before .before .before .before .before .before .before in Builds (one-part o) (drop (begun-one o .args .base) (r .build-chain .last .0)) (r .build-chain .result) (begun-one o .args .c) (next-of (begun-one o))
+  tree-one : (r : chain-lts.After-build-chain (chain-callees t) (chain-at t) build-chain.Post) → let o = r .before .before .before .before .before .before .before in Builds (one-part o) (drop (begun-one o .args .base) (r .build-chain .last .0)) (r .build-chain .result) (begun-one o .args .c) (next-of (begun-one o))
   tree-one r = rw (r .before .before .before .before .before .before .before .build-one .ensures .0 .kept) at (r .build-chain .ensures .builds)
 
   -- THE LOOP, at its test and in a turn
   abbrev Looped : Type 0
-  Looped = lts.At-loop (callees t) (at-t t) build-chain.Post Inv-loop μ-loop
+  Looped = under-lts.At-loop (under-callees t) (under-at t) build-under.Post Inv-loop μ-loop
 
-  abbrev begun-loop : Looped → Begun
-  begun-loop l = l .before .before .before .before .before .before .before .before .before .before .before .before .before .before .before .before .before .before .before .before .before
+  abbrev Begun-under : Type 0
+  Begun-under = under-lts.Start (under-callees t) (under-at t) build-under.Post Inv-loop μ-loop
+
+  abbrev begun-loop : Looped → Begun-under
+  begun-loop l = l .before .before .before .before .before .before .before .before .before .before .before .before .before .before
 
   some-left : (l : Looped) → 0 < begun-loop l .args .left
-  some-left l = pos-of-ne-zero (l .before .before .before .before .before .before .before .before .before .before .before .before .before .before .before .before .if1 .left)
+  some-left l = begun-loop l .pre .1 .0
+
+  not-none : (l : Looped) → begun-loop l .args .left ≡ 0 → ⊥
+  not-none l z = omega (arith, some-left l)
 
   -- the run that the loop goes over, for any room that could be named
   ran : (l : Looped) → let b = l .before .before .before .before .before .before .build-run in let g = begun-loop l .args in
-      (a m : ℕ) (q : List ℕ) → State (drop (g .base) (g .words .now)) (g .c) a a q (frees a (width (whole (begun-loop l)) + under (whole (begun-loop l)) + m))
+      (a m : ℕ) (q : List ℕ) → let T = treeAt (take (g .base) (g .words .now)) (g .field) (g .left) (take (g .n) (g .sets .now)) in State (drop (g .base) (g .words .now)) (g .c) a a q (frees a (width T + under T + m))
       → Run-of (drop (g .base) (b .last .0)) (b .result) (g .c) (take (g .base) (b .last .0)) (take (g .n) (g .sets .now)) (g .field) (g .left) a m q
-  ran l a m q s = let b = l .before .before .before .before .before .before .build-run in rw (b .ensures .kept) (b .ensures .lays _ _ _ (split _ _ _ _ m (l .before .before .before .before .before .before .before .before .before .before .before .before .before .before .before .before .if1 .left) s))
+  ran l a m q s = let b = l .before .before .before .before .before .before .build-run in rw (b .ensures .kept) (b .ensures .lays _ _ _ (split _ _ _ _ m (not-none l) s))
 
-  here : (l : Looped) → let b = l .before .before .before .before .before .before .build-run in let g = begun-loop l .args in let r = begun-loop l .pre .1 .room in l .loop .k < firstFree (drop (g .base) (b .last .0))
+  here : (l : Looped) → let b = l .before .before .before .before .before .before .build-run in let g = begun-loop l .args in let r = begun-loop l .pre .1 .1 .room in l .loop .k < firstFree (drop (g .base) (b .last .0))
       → Turn (drop (g .base) (l .loop .words)) (g .c) (r .a) (r .more) (r .q) (l .loop .k) (underAt (take (g .base) (b .last .0)) (g .field) (g .left) (take (g .n) (g .sets .now))) (ends (fieldAt (take (g .base) (b .last .0)) (g .field)) (take (g .n) (g .sets .now)))
-  here l u = let s = begun-loop l in let r = s .pre .1 .room in fill-turn (l .loop .inv) (r .a) (r .more) (r .q) (first-at (s .args .base) (s .args .words .now) ∙ st-head (r .state)) (ran l (r .a) (r .more) (r .q) (r .state)) u
+  here l u = let s = begun-loop l in let r = s .pre .1 .1 .room in fill-turn (l .loop .inv) (r .a) (r .more) (r .q) (first-at (s .args .base) (s .args .words .now) ∙ st-head (r .state)) (ran l (r .a) (r .more) (r .q) (r .state)) u
 
   abbrev In-turn : Type 0
-  In-turn = lts.In-loop (callees t) (at-t t) build-chain.Post Inv-loop μ-loop
+  In-turn = under-lts.In-loop (under-callees t) (under-at t) build-under.Post Inv-loop μ-loop
 
   not-past : (i : In-turn) → i .before .loop .k < firstFree (drop (begun-loop (i .before) .args .base) (i .before .before .before .before .before .before .before .build-run .last .0))
   not-past i = rw first-at at (i .loop-test .taken)
 
   inside : (l : Looped) → begun-loop l .args .base ≤ length (l .loop .words)
-  inside l = omega (arith, l .loop .inv .long, l .before .before .before .before .before .before .build-run .kept .0, begun-loop l .pre .1 .inside)
+  inside l = omega (arith, l .loop .inv .long, l .before .before .before .before .before .before .build-run .kept .0, begun-loop l .pre .1 .1 .inside)
 
   fits : (l : Looped) → begun-loop l .args .n + begun-loop l .args .n ≤ length (l .loop .sets)
-  fits l = omega (arith, l .loop .inv .sets-long, sets-fit (begun-loop l .pre .1 .scratch) (some-left l))
+  fits l = omega (arith, l .loop .inv .sets-long, sets-fit (begun-loop l .pre .1 .1 .scratch) (some-left l))
 
   ends-kept : (l : Looped) → length (l .loop .ends) ≡ length (begun-loop l .args .ends .now)
   ends-kept l = l .loop .inv .ends-long ∙ l .before .before .before .before .before .before .build-run .kept .1 .1 .1 .1 .1 .0
 
   -- what is to stand below the cell of a turn
   abbrev Narrowed : Type 0
-  Narrowed = lts.After-narrowed (callees t) (at-t t) build-chain.Post Inv-loop μ-loop
+  Narrowed = under-lts.After-narrowed (under-callees t) (under-at t) build-under.Post Inv-loop μ-loop
 
   abbrev turn-at : Narrowed → In-turn
   turn-at v = v .before .before .before .before .before
@@ -166,24 +193,25 @@ module _ (t : ℕ) where
       ≡ underAt rules (g .field) (g .left) (take (g .n) (g .sets .now)) (cellWord (drop (g .base) (l .loop .words)) (l .loop .k) 0)
   below-turn v = let l = turn-at v .before in below-is (l .loop .inv) (v .narrowed .ensures) (v .before .before .before .end-of .ensures) (v .narrowed .kept .1 .1 .0) (omega (arith, fits l))
 
-pub +build-chain-spec : {M : Type 1} → statement M
-+build-chain-spec = close μ-build-chain λ t. lts.spec (callees t) (at-t t) build-chain.Post Inv-loop μ-loop
+pub +build-chain+build-under-spec : {M : Type 1} → statement M
++build-chain+build-under-spec = close μ-chain μ-under
+    (λ t. chain-lts.spec (chain-callees t) (chain-at t) build-chain.Post
     (λ c. set-fits (c .before .before .before .pre .1 .scratch))  -- slice-reshare-prefix-set
     (λ c. sym (length-take-le _ _ (set-fits (c .before .before .before .before .pre .1 .scratch))))  -- slice-aggregate-set
-    (λ c κs. search needs)  -- build-leaf-requires
-    (λ c. search needs)  -- same-length
+    (λ c κs. omega arith)  -- build-leaf-requires
+    (λ c. omega arith)  -- same-length
     (λ c. record { builds = λ a m q s. built-none _ _ _ _ m (c .before .if1 .taken) (c .build-leaf .ensures) s; kept = refl })  -- returns
     (λ c. c .before .before .before .before .before .pre .1 .inside)  -- slice-reshare-prefix-rules
     (λ c. sym (length-take-le _ _ (c .before .before .before .before .before .before .pre .1 .inside)))  -- slice-aggregate-rules
-    (λ c. search needs)  -- slice-aggregate-none
-    (λ c κs. search needs)  -- first-place-requires
-    (λ c κs. search needs)  -- high-requires
-    (λ c κs. search needs)  -- flat-requires
+    (λ c. omega arith)  -- slice-aggregate-none
+    (λ c κs. omega arith)  -- first-place-requires
+    (λ c κs. omega arith)  -- high-requires
+    (λ c κs. omega arith)  -- flat-requires
     (λ c κs. let f = c .before in let p = f .before .before .before .before .before .before .before .before .before .before .before .pre .1 in (p .inside, one-first (f .before .before .before .before .before .before .if1 .left) (rw append-nil at (f .before .flat .ensures (f .if2 .taken))) (p .room)))  -- build-one-requires
-    (λ c κs. search needs)  -- build-leaf-requires-2
+    (λ c κs. omega arith)  -- build-leaf-requires-2
     (λ c κs. let o = c .before .before .before .before .before in omega (arith, room-one t o _ _ (leaf-one t c), length-drop (begun-one t o .args .base) (o .build-one .last .0)))  -- write-below-requires
     (λ c. c .before .before .write-below .kept .0 ∙ c .before .before .before .before .before .before .before .before .build-one .kept .0)  -- same-length-2
-    (λ c. search needs)  -- same-length-3
+    (λ c. omega arith)  -- same-length-3
     (λ c. let w = c .before .before .write-below .ensures in let l = c .before .before .before in let o = l .before .before .before .before .before in record { builds = rw (w .hangs) (built-one t o _ _ (leaf-one t l)); kept = w .kept ∙ o .build-one .ensures .0 .kept })  -- returns-2
     (λ c. let o = c .before .before .before .before .before in omega (arith, begun-one t o .pre .1 .depth, left-one t o))  -- add-build-chain
     (λ c. left-one t (c .before .before .before .before .before))  -- sub-build-chain
@@ -204,32 +232,43 @@ pub +build-chain-spec : {M : Type 1} → statement M
     let r = c .before .before .before .before .before .before .before .before .before .before in
     let o = r .before .before .before .before .before .before .before in
     record { builds = rw (w .hangs) (built-one t o _ _ (tree-one t r)); kept = w .kept ∙ r .build-chain .ensures .kept ∙ o .build-one .ensures .0 .kept })
-    (λ c. let s = c .before .before .before .before .before .before .before .before .before .before .before in record { fits = omega (arith, s .pre .1 .inside, s .good .0 .1) })  -- mul-k
-    (λ c. let s = c .before .before .before .before .before .before .before .before .before .before .before .before in omega (arith, s .pre .1 .room .state .tot, length-drop (s .args .base) (s .args .words .now)))  -- slice-read-k
-    -- build-run-requires
+    -- build-under-requires
     (λ c κs.
     let e = c .before .before .before .before .before .before .before .before .before in
     let s = e .before .before .before .before .before in
-    let p = s .pre .1 in
-    (p .inside, record { a = _; more = _; q = _; state = split _ _ _ _ (p .room .more) (e .if1 .left) (p .room .state) }, omega (arith, ends-fit (p .scratch) (pos-of-ne-zero (e .if1 .left)), length-take-le (s .args .n) (s .args .sets .now) (set-fits (p .scratch)))))
-    (λ c. let s = c .before .before .before .before .before .before .before .before .before .before .before .before .before .before .before .before .before .before .before in record { fits = omega (arith, s .pre .1 .inside, s .good .0 .1) })  -- mul-past
-    (λ c. let b = c .before .before .before .before .before in let s = b .before .before .before .before .before .before .before .before .before .before .before .before .before .before .before in omega (arith, b .build-run .kept .0, s .pre .1 .room .state .tot, length-drop (s .args .base) (s .args .words .now)))  -- slice-read-past
+    (omega (arith, s .pre .0), (pos-of-ne-zero (e .if1 .left), s .pre .1)))
+    (λ c. c .before .before .before .before .before .before .build-under .kept .0)  -- same-length-7
+    (λ c. c .before .before .before .before .before .before .build-under .kept .1 .1 .1 .0)  -- same-length-8
+    (λ c. c .before .before .before .before .before .before .build-under .kept .1 .1 .1 .1 .1 .1 .1 .0)  -- same-length-9
+    (λ c. c .before .before .before .before .before .before .build-under .ensures))  -- returns-4
+    λ t. under-lts.spec (under-callees t) (under-at t) build-under.Post Inv-loop μ-loop
+    (λ c. let s = c .before .before .before in record { fits = omega (arith, s .pre .1 .1 .inside, s .good .0 .1) })  -- mul-k
+    (λ c. let s = c .before .before .before .before in omega (arith, s .pre .1 .1 .room .state .tot, length-drop (s .args .base) (s .args .words .now)))  -- slice-read-k
+    (λ c. set-fits (c .before .before .before .before .before .pre .1 .1 .scratch))  -- slice-reshare-prefix-build-run
+    (λ c. sym (length-take-le _ _ (set-fits (c .before .before .before .before .before .before .pre .1 .1 .scratch))))  -- slice-aggregate-build-run
+    -- build-run-requires
+    (λ c κs.
+    let s = c .before .before .before .before .before .before .before in
+    let p = s .pre .1 .1 in
+    (p .inside, record { a = _; more = _; q = _; state = split _ _ _ _ (p .room .more) (λ z. omega (arith, s .pre .1 .0)) (p .room .state) }, omega (arith, ends-fit (p .scratch) (s .pre .1 .0), length-take-le (s .args .n) (s .args .sets .now) (set-fits (p .scratch)))))
+    (λ c. let s = c .before .before .before .before .before .before .before .before .before .before .before .before in record { fits = omega (arith, s .pre .1 .1 .inside, s .good .0 .1) })  -- mul-past
+    (λ c. let b = c .before .before .before .before .before in let s = b .before .before .before .before .before .before .before .before in omega (arith, b .build-run .kept .0, s .pre .1 .1 .room .state .tot, length-drop (s .args .base) (s .args .words .now)))  -- slice-read-past
     (λ c. filled-start _ _ _ _ _ _ _ _ _ _)  -- loop-holds
     (λ c κs. let i = c .before in let l = i .before in omega (arith, turn-room (here t l (not-past t i)), length-drop (begun-loop t l .args .base) (l .loop .words)))  -- end-of-requires
     (λ c κs. let l = c .before .before .before .before .before in (inside t l, fits t l))  -- narrowed-requires
     (λ c. let l = c .before .before .before .before .before .before .before .before .before in record { fits = omega (arith, fits t l, l .loop .inv .sets-long, begun-loop t l .good .1 .1 .1 .0 .1) })  -- mul-build-chain
-    (λ c. omega (arith, fits t (c .before .before .before .before .before .before .before .before .before), c .before .before .before .narrowed .kept .1 .1 .0))  -- sub-build-chain-2
+    (λ c. omega (arith, fits t (c .before .before .before .before .before .before .before .before .before), c .before .before .before .narrowed .kept .1 .1 .0))  -- sub-build-chain
     (λ c. omega (arith, fits t (c .before .before .before .before .before .before .before .before .before), c .before .before .before .narrowed .kept .1 .1 .0))  -- part-build-chain-start
-    (λ c. search needs)  -- part-build-chain-end
-    (λ c. let l = c .before .before .before .before .before .before .before .before .before .before in omega (arith, begun-loop t l .pre .1 .depth, some-left t l))  -- add-build-chain-2
-    (λ c. some-left t (c .before .before .before .before .before .before .before .before .before .before))  -- sub-build-chain-3
-    -- build-chain-requires-2
+    (λ c. omega arith)  -- part-build-chain-end
+    (λ c. let l = c .before .before .before .before .before .before .before .before .before .before in omega (arith, begun-loop t l .pre .1 .1 .depth, some-left t l))  -- add-build-chain
+    (λ c. some-left t (c .before .before .before .before .before .before .before .before .before .before))  -- sub-build-chain-2
+    -- build-chain-requires
     (λ c κs.
     let v = c .before .before .before .before .before in
     let i = turn-at t v in
     let l = i .before in
     let s = begun-loop t l in
-    let p = s .pre .1 in
+    let p = s .pre .1 .1 in
     let w = v .narrowed in
     let x = some-left t l in
     let sets = w .last .1 .1 .0 in (
@@ -242,33 +281,33 @@ pub +build-chain-spec : {M : Type 1} → statement M
         depth = omega (arith, p .depth);
       },
     ))
-    -- write-below-requires-3
+    -- write-below-requires
     (λ c κs.
     let r = c .before .before .before .before .before .before .before in
     let v = r .before .before .before .before .before .before in
     let i = turn-at t v in
-    omega (arith, down-room (here t (i .before) (not-past t i)) _ (below-turn t v) _ _ (r .build-chain2 .ensures .builds), length-drop (begun-loop t (i .before) .args .base) (r .build-chain2 .last .0)))
-    (λ c. let i = turn-at t (c .before .before .before .before .before .before .before .before .before .before .before .before .before .before .before .before) in let l = i .before in omega (arith, turn-lt (here t l (not-past t i)), begun-loop t l .pre .1 .room .state .most))  -- add-k
+    omega (arith, down-room (here t (i .before) (not-past t i)) _ (below-turn t v) _ _ (r .build-chain .ensures .builds), length-drop (begun-loop t (i .before) .args .base) (r .build-chain .last .0)))
+    (λ c. let i = turn-at t (c .before .before .before .before .before .before .before .before .before .before .before .before .before .before .before .before) in let l = i .before in omega (arith, turn-lt (here t l (not-past t i)), begun-loop t l .pre .1 .1 .room .state .most))  -- add-k
     (λ c. omega (arith, turn-at t (c .before .before .before .before .before .before .before .before .before .before .before .before .before .before .before .before) .loop-test .taken))  -- loop-less
     -- loop-again
     (λ c.
-    let w = c .before .before .write-below3 in
+    let w = c .before .before .write-below in
     let r = c .before .before .before .before .before .before .before .before .before .before in
     let v = r .before .before .before .before .before .before in
     let i = turn-at t v in
     let l = i .before in
     let x = v .narrowed in
-    fill-on (l .loop .inv) (x .ensures) (v .before .before .before .end-of .ensures) (x .kept .1 .1 .0) (omega (arith, fits t l)) (r .build-chain2 .last .1 .1 .1 .0) (r .build-chain2 .ensures) (r .build-chain2 .kept .0) (w .ensures) (w .kept .0) (c .before .before .before .before .before .before .before .sets3 .given .1) (r .build-chain2 .kept .1 .1 .1 .1 .1 .1 .1 .0) (not-past t i))
-    (λ c. c .before .loop .inv .long ∙ c .before .before .before .before .before .before .before .build-run .kept .0)  -- same-length-7
-    (λ c. c .before .loop .inv .sets-long)  -- same-length-8
-    (λ c. ends-kept t (c .before))  -- same-length-9
-    -- returns-4
+    fill-on (l .loop .inv) (x .ensures) (v .before .before .before .end-of .ensures) (x .kept .1 .1 .0) (omega (arith, fits t l)) (r .build-chain .last .1 .1 .1 .0) (r .build-chain .ensures) (r .build-chain .kept .0) (w .ensures) (w .kept .0) (c .before .before .before .before .before .before .before .sets2 .given .1) (r .build-chain .kept .1 .1 .1 .1 .1 .1 .1 .0) (not-past t i))
+    (λ c. c .before .loop .inv .long ∙ c .before .before .before .before .before .before .before .build-run .kept .0)  -- same-length
+    (λ c. c .before .loop .inv .sets-long)  -- same-length-2
+    (λ c. ends-kept t (c .before))  -- same-length-3
+    -- returns
     (λ c.
     let l = c .before in
     let b = l .before .before .before .before .before .before .build-run in
     let g = begun-loop t l .args in record {
       builds = λ a m q s.
           let z = ran t l a m q s in
-          rw (← b .ensures .kept, tree-step _ _ _ _ (l .before .before .before .before .before .before .before .before .before .before .before .before .before .before .before .before .if1 .left)) (filled-all (l .loop .inv .fills a m q (first-at (g .base) (g .words .now) ∙ st-head s) z) z (omega (arith, c .loop-test .left, past-run _ z, first-at (g .base) (b .last .0))));
+          rw (← b .ensures .kept, tree-step _ _ _ _ (not-none t l)) (filled-all (l .loop .inv .fills a m q (first-at (g .base) (g .words .now) ∙ st-head s) z) z (omega (arith, c .loop-test .left, past-run _ z, first-at (g .base) (b .last .0))));
       kept = l .loop .inv .kept ∙ b .ensures .kept;
     })
