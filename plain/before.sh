@@ -4,12 +4,12 @@
 #
 #     sh plain/before.sh ARCHIVE EARLIER
 #
-# EARLIER is an archive of a version from 4.1 on, for the same processor.  Both
-# are linked into one program, the earlier one's calls under other names.  CC
-# names the compiler (cc), LIBS what else the archives want to be linked with.
-# SAMPLES are names of samples of small stores from speed.c, where not all are
-# wanted.  Where valgrind is there the instructions of lookups and of all other
-# calls are counted too.
+# EARLIER is an archive of version 4.1 or 4.2, whose tally record has 65 places,
+# for the same processor.  Both are linked into one program, the earlier one's
+# calls under other names.  CC names the compiler (cc), LIBS what else the
+# archives want to be linked with.  SAMPLES are names of samples of small stores
+# from speed.c, where not all are wanted.  Where valgrind is there the
+# instructions of lookups and of all other calls are counted too.
 if [ $# -ne 2 ]; then
 	echo "usage: sh before.sh ARCHIVE EARLIER" >&2
 	exit 2
