@@ -22,7 +22,7 @@ from pathlib import Path
 
 from prover import ROOT, TEMPORARY, Baseline, Kit, run
 
-WIDE = 150  # facts that take more room have names for their places
+WIDE, NAMES = 150, 'abdefhijk'  # facts that take more room have names for their places
 SEARCH = re.compile(r'\(λ c( κs)?\. search needs\)')
 
 
@@ -92,9 +92,9 @@ def answer(facts):
         lets = 'let g = %s in ' % named[1]
     split = [re.fullmatch(r'(g|c(?: \.before)*)( .*)', fact) for fact in facts]
     places = sorted({len(found[1]): found[1] for found in split if found[1] != 'g'}.values(), key=len)
-    if len(places) > 1 and len(''.join(facts)) > WIDE:
+    if 1 < len(places) <= len(NAMES) and len(''.join(facts)) > WIDE:
         above, names = 'c', {'g': 'g', 'c': 'c'}
-        for name, place in zip('abdefhijk', [place for place in places if place != 'c']):
+        for name, place in zip(NAMES, [place for place in places if place != 'c']):
             lets += 'let %s = %s%s in ' % (name, names[above], place[len(above):])
             names[place], above = name, place
         facts = [names[found[1]] + found[2] for found in split]

@@ -11,7 +11,7 @@ each by a check of its whole crate, and those in tests/must-fail/CRATE here: in 
 copy of the crate, over what `rt check` has proved of it (prover.py), so that only
 what the edit touches is proved again. Run `rt check` first. --all tries both, --mutants
 so many small wrong changes of each library's code too, those that mutants.py chooses and
-judges, --jobs says how many provers at once, --why prints the error of each refusal too.
+judges, --jobs says how many provers at once, --why prints the errors of those that passed too.
 
 Several edits are tried in one copy of a crate (beside.py). One that is not refused so is
 tried in a copy of its own; --apart tries all of them so. --same puts each function that has
@@ -233,18 +233,17 @@ def try_all(options):
         for edit, (what, first, took) in found.items():
             counts[what] += 1
             seconds[crate] += took
-            first = '' if what == 'refused' and not options.why else first[:options.cut]
+            failed = what not in PASSED and not (isinstance(edit, Mutant) and what == 'not compiled')
+            first = first[:options.cut] if failed or options.why else ''
             print('%-12s %s (%.1f s) %s' % (what, edit.name, took, first), flush=True)
-            if what not in PASSED and not (isinstance(edit, Mutant) and what == 'not compiled'):
+            if failed:
                 wrong.append('FAILED %s: %s %s' % (edit.name, what, first))
     for crate, edits in chosen.items():
         print('%-12s %3d changes, %6.1f s' % (crate, len(edits), seconds[crate]))
     for line in wrong:
         print(line)
-    passed = sum(counts[what] for what in PASSED)
-    failed = len(wrong)
-    print('%d passed, %d failed' % (passed, failed))
-    return 1 if failed else 0
+    print('%d passed, %d failed' % (sum(counts[what] for what in PASSED), len(wrong)))
+    return 1 if wrong else 0
 
 
 def try_same(options):
@@ -252,10 +251,10 @@ def try_same(options):
     functions = {crate: Functions(crate, kit.files[crate]) for crate in chosen}
     groups = {}
     for crate, edits in chosen.items():
-        names = {edit.function(functions[crate]) for edit in edits} - {None}
-        beside = [Same(crate, name) for name in sorted(names) if functions[crate].head(name) is not None]
-        beside += [Same(crate, name) for name in sorted({edit.definitions() for edit in edits} - {None})]
-        groups[crate] = functions[crate].groups(beside)
+        here = functions[crate]
+        names = {name for name in {edit.function(here) for edit in edits} - {None} if here.head(name) is not None}
+        names |= {name for name in {edit.definitions() for edit in edits} if here.laws.above(name)}
+        groups[crate] = here.groups([Same(crate, name) for name in sorted(names)])
 
     def each(crate, baseline, group):
         status, out, _ = baseline().check(functions[crate].beside(group), LIMIT)

@@ -29,8 +29,8 @@ def modules(kit, crate):
         if status != 0:
             sys.exit('%s is not proved: %s' % (crate, outcome(status, out)[1]))
         for done, name in sorted((path.stat().st_mtime, path.name) for path in Path(folder).rglob('*.oantt')):
-            name = name.removesuffix('.oantt').removesuffix('.decls')
-            found[name.removeprefix('Rattle·').replace('·proofs.proofs', '').replace('·specs.specs', ' specs')] += done - last
+            name = name.removesuffix('.oantt').removesuffix('.decls').removeprefix('Rattle·')
+            found[name.replace('·proofs.proofs', '').replace('·specs.specs', ' specs')] += done - last
             last = done
     return took, found
 
