@@ -2,12 +2,12 @@
 ghost use mathlib.Core.Path.{_≡_};
 ghost use Prim.Native.Nat.{_≤_};
 ghost use lib.ListN.{length};
-use audit::Count;
 use header::Header;
 use ipv4::Rule;
 use lookup::Found;
+use reading::Reading;
 use script::Case;
-use store::Reading;
+use seek::Count;
 
 // The calls, each as the letters of its name.
 pub const ROOM: u64 = 0x726f6f6d;
@@ -242,15 +242,15 @@ fn deleted(words: &mut [u32], number: u32) -> u32 {
 }
 
 fn read_of(words: &[u32], number: u32) -> Reading {
-    store::read(words, number)
+    reading::read(words, number)
 }
 
 fn cells_of(words: &[u32]) -> Count {
-    store::cells(words)
+    reading::cells(words)
 }
 
 fn check_of(words: &[u32]) -> bool {
-    store::check(words)
+    reading::check(words)
 }
 
 fn lookup_of(words: &[u32], given: [u32; 16]) -> Found {

@@ -21,8 +21,8 @@ use Rattle.layout.specs.Store.{rowsOf, tableOf, roomFor, passes, holding, carry
 use Rattle.layout.proofs.Parts.{rows-slice}
 use Rattle.layout.proofs.Sound.{Roomy, roomy, Sound, sound, count-is}
 use Rattle.layout.proofs.Passed.{sound-free}
-use Rattle.change.proofs.Planting.{ready-bare, ready-room, done-words}
-use Rattle.change.proofs.Answers.{done, kept}
+use Rattle.plant.proofs.Planting.{ready-bare, ready-room, done-words}
+use Rattle.plant.proofs.Left.{done, kept}
 
 module _ (ts : List ℕ) (o s : Shape) (from ws : List ℕ) (c : ℕ) where
   pub carry-9 : passes (kindOf ts o) from ≡ false → 9 ≡ carrySays (kindOf ts o) (kindOf ts s) from ws c

@@ -60,6 +60,6 @@ pub fn carry(
     let end = start + (2 + 8 * (c as usize));
     cells::clear(&mut words[start..end], c);
     front::carried(&mut words[..start], c, n, &from[rows..links], tops, shape);
-    change::plant(words, c, n, tops, shape, sets, ends);
+    plant::plant(words, c, n, tops, shape, sets, ends);
     0
 }

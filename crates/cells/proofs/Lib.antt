@@ -7,4 +7,4 @@ pub mod Blank
 pub mod Middle
 pub mod Free
 pub mod Part
-pub mod Build
+pub mod Lay

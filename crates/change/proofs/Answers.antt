@@ -1,42 +1,24 @@
--- What the edits answer and leave, by what they decide; and what an answer 0 says of the table before and after.
+-- What the edits leave, by what they answer; and what an answer 0 says of the table before and after.
 -- Assumes nothing.
-use mathlib.Core.Path.{_≡_, sym, ap, ap₂, _∙_}
-use mathlib.Core.Bool.{true, false}
-use mathlib.Core.List.{List, [], _++_}
+use mathlib.Core.Path.{_≡_, sym, _∙_}
+use mathlib.Core.Bool.{true}
+use mathlib.Core.List.{List}
 use Prim.Native.Nat.{ℕ, _+_, _-_, _≤_, _<_}
 use native.Mathlib.Omega.{arith}
 use lib.Dec.{ltb}
-use lib.ListN.{length, getD, take, drop}
-use lib.Seq.{take-add}
-use borrow.Rule.Slice.PartMut.{putMid, take-put}
-use borrow.Author.Tests.{eq-eqb, ne-eqb}
-use Rattle.model.specs.Table.{Kind, Shaped, rowWords, Rule, cellsOf, within, stands, withRule, without, insertAnswer, deleteAnswer}
+use lib.ListN.{length, getD}
+use Rattle.model.specs.Table.{Kind, Shaped, Rule, cellsOf, within, stands, withRule, without}
 use Rattle.model.proofs.Tests.{by-test}
 use Rattle.model.proofs.Edits.{Taken, taken, length-added, length-removed, insert-within, delete-within, delete-fewer}
-use Rattle.table.specs.Rows.{tableIn, ahead, noRule}
+use Rattle.table.specs.Rows.{ahead, noRule}
 use Rattle.table.proofs.Edits.{at-stands}
 use Rattle.table.proofs.Place.{ahead-all}
-use Rattle.layout.specs.Store.{headText, cellsIn, tableOf, roomFor, passes, holding, unless, startAnswer, startWords, insertSays, insertWords, deleteSays, deleteWords}
-use Rattle.layout.specs.Inner.{frontText}
-use Rattle.layout.proofs.Parts.{head-of, rows-slice}
+use Rattle.layout.specs.Store.{cellsIn, tableOf, passes, holding, insertSays, insertWords, deleteSays, deleteWords}
 use Rattle.layout.proofs.Sound.{sound, count-is}
-use Rattle.layout.proofs.Passed.{sound-room, sound-within, sound-most}
-
--- START
-module _ (k : Kind) (ws : List ℕ) (c a : ℕ) where
-  pub start-refused : roomFor k c ws ≡ false → (8 ≡ startAnswer k ws c) × (ws ≡ startWords k ws c a)
-  start-refused h = (rw h, rw h)
-
-  pub start-done : roomFor k c ws ≡ true → (new : List ℕ) → new ≡ holding k c (record { action = a; rules = [] }) ws → (0 ≡ startAnswer k ws c) × (new ≡ startWords k ws c a)
-  start-done h new e = (rw h, rw h e)
+use Rattle.layout.proofs.Passed.{sound-within, sound-most}
+use Rattle.plant.proofs.Left.{done, kept}
 
 -- THE WORDS: what an answer 0 leaves, and what a refusal does
-pub done : (a : ℕ) (h ws new : List ℕ) → 0 ≡ a → new ≡ h → new ≡ unless a h ws
-done a h ws new e q = rw (eq-eqb a 0 (sym e)) q
-
-pub kept : (a : ℕ) (h ws : List ℕ) (b : ℕ) → b ≡ a → (b ≡ 0 → ⊥) → ws ≡ unless a h ws
-kept a h ws b e n = rw (ne-eqb a 0 (λ z. n (e ∙ z)))
-
 module _ (k : Kind) (sh : Shaped k) (ws : List ℕ) (r : Rule) where
   pub insert-done : (new : List ℕ) → 0 ≡ insertSays k ws r → new ≡ holding k (cellsIn ws) (withRule r (tableOf k ws)) ws → new ≡ insertWords k ws r
   insert-done = done (insertSays k ws r) (holding k (cellsIn ws) (withRule r (tableOf k ws)) ws) ws
@@ -64,25 +46,6 @@ deleted k sh ws n e = by-test (passes k ws)
     (λ l. absurd (let z : 0 ≡ 1 = e ∙ rw (h, l) in omega arith))
     (λ l. by-test (stands n (tableOf k ws .rules)) (λ s. (h, s)) (λ s. absurd (let z : 0 ≡ 4 = e ∙ rw (h, l, s) in omega arith))))
     (λ h. absurd (let z : 0 ≡ 9 = e ∙ rw h in omega arith))
-
--- THE ROWS AS A SLICE: what is decided of them is decided of the table
-module _ (k : Kind) (ws : List ℕ) (E : ℕ) (f : E ≡ k .head + rowWords k) (h : passes k ws ≡ true) where
-  pub insert-says : (r : Rule) (v x p : ℕ)
-      → (x ≡ insertAnswer k (cellsIn ws) (tableIn k (getD ws 1 0) (take (E - k .head) (drop (k .head) ws))) r) × (x ≡ 0 → p ≡ ahead v (tableIn k (getD ws 1 0) (take (E - k .head) (drop (k .head) ws)) .rules))
-      → (x ≡ insertSays k ws r) × (x ≡ 0 → p ≡ ahead v (tableOf k ws .rules))
-  insert-says r v x p q = let g = rw (rows-slice k ws E f) at q in (rw h (g .0), g .1)
-
-  pub delete-says : (v x p : ℕ)
-      → (x ≡ deleteAnswer (tableIn k (getD ws 1 0) (take (E - k .head) (drop (k .head) ws))) v) × (x ≡ 0 → p ≡ ahead v (tableIn k (getD ws 1 0) (take (E - k .head) (drop (k .head) ws)) .rules))
-      → (x ≡ deleteSays k ws v) × (x ≡ 0 → p ≡ ahead v (tableOf k ws .rules))
-  delete-says v x p q = let g = rw (rows-slice k ws E f) at q in (rw h (g .0), g .1)
-
--- a store that fails the check
-pub insert-9 : (k : Kind) (ws : List ℕ) (r : Rule) → passes k ws ≡ false → 9 ≡ insertSays k ws r
-insert-9 k ws r h = rw h
-
-pub delete-9 : (k : Kind) (ws : List ℕ) (n : ℕ) → passes k ws ≡ false → 9 ≡ deleteSays k ws n
-delete-9 k ws n h = rw h
 
 -- AN INSERT THAT IS DONE: the table has room, and the new table is within the limits and fits
 module _ (k : Kind) (sh : Shaped k) (ws : List ℕ) (r : Rule) (e : 0 ≡ insertSays k ws r) where
@@ -120,15 +83,3 @@ module _ (k : Kind) (sh : Shaped k) (ws : List ℕ) (n : ℕ) (e : 0 ≡ deleteS
 
   pub delete-cells : cellsOf k (without n (tableOf k ws)) ≤ cellsIn ws
   delete-cells = omega (arith, delete-fewer k n (tableOf k ws), sound-most k sh ws (sound k sh ws (deleted k sh ws n e .0)))
-
--- THE FRONT of a store that passes is that of its table, and stays when its cells are emptied
-module _ (k : Kind) (sh : Shaped k) (ws : List ℕ) (h : passes k ws ≡ true) where
-  front-of : take (k .head + rowWords k) ws ≡ frontText k (cellsIn ws) (tableOf k ws)
-  unfolding frontText
-  front-of =
-      let o = sound k sh ws h in
-      let l = sound-room k sh ws o .long in
-      take-add (k .head) (rowWords k) ws ∙ ap₂ _++_ (head-of k sh ws (omega (arith, l)) (o .marked) (o .zeros) ∙ ap (headText k (cellsIn ws)) (sym (count-is k sh ws))) (o .rows)
-
-  pub front-stays : (E m : ℕ) (p : List ℕ) → E ≡ k .head + rowWords k → take E (putMid E m ws p) ≡ frontText k (cellsIn ws) (tableOf k ws)
-  front-stays E m p f = take-put E m ws p (omega (arith, sound-room k sh ws (sound k sh ws h) .long)) ∙ (ap (λ i. take i ws) f ∙ front-of)

@@ -1,3 +1,1 @@
-pub mod Answers
-pub mod Text
-pub mod Steps
+pub mod Turns

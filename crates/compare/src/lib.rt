@@ -1,176 +1,13 @@
 // Whether words are exactly the text of a tree and then the free chain. The tree is not made: its chains are gone through in the order in which they would be built, and each cell is compared with what would be written there.
 use cells::Below;
+use stands::Told;
 ghost use mathlib.Core.Path.{_≡_};
-ghost use mathlib.Core.List.{[], _∷_};
-ghost use Prim.Native.Nat.{_+_, _-_, _*_, _≤_, _<_};
-ghost use lib.ListN.{length, getD, take};
-ghost use Rattle.model.specs.Rules.{ends as endsOf};
-ghost use Rattle.rows.specs.Rows.{fieldAt, firstOf, treeAt, Scratch};
-ghost use Rattle.cells.specs.Text.{onlyDown, frees, part};
+ghost use Prim.Native.Nat.{_+_, _*_, _≤_, _<_};
+ghost use lib.ListN.{length, take};
+ghost use Rattle.rows.specs.Rows.{treeAt, Scratch};
+ghost use Rattle.cells.specs.Text.{part};
 ghost use Rattle.model.specs.Lists.{same};
-ghost use Rattle.compare.specs.Compare.{Room, from, headIs, restIs, told, headsAre, toldRun};
-
-// What a comparison tells: it stands there, with the cell behind the last one and what a cell above it says; or it does not.
-pub enum Told {
-    Same(u32, Below),
-    Differs,
-}
-
-// Whether cell k has an end and a next.
-fn head_is(words: &[u32], c: u32, k: u32, end: u32, next: u32) -> bool
-    requires { ⌜ Room (now words) c × (k < c) ⌝ }
-    ensures { λ r. ⌜ r ≡ headIs (now (words .entry)) k end next ⌝ }
-{
-    let i = 2 + 8 * (k as usize);
-    if words[i] != end {
-        return false;
-    }
-    words[i + 1] == next
-}
-
-// Whether cell k says what is below it, and then zeros. All six words are read before the first is tested: one test of them all is made of that.
-fn rest_is(words: &[u32], c: u32, k: u32, under: Below) -> bool
-    requires { ⌜ Room (now words) c × (k < c) ⌝ }
-    ensures { λ r. ⌜ r ≡ restIs (now (words .entry)) k under ⌝ }
-{
-    let i = 2 + 8 * (k as usize);
-    let below = words[i + 2];
-    let a = words[i + 3];
-    let b = words[i + 4];
-    let d = words[i + 5];
-    let e = words[i + 6];
-    let f = words[i + 7];
-    let down = under.down;
-    let side = under.side;
-    if below != down {
-        return false;
-    }
-    if a != side {
-        return false;
-    }
-    if b != 0 {
-        return false;
-    }
-    if d != 0 {
-        return false;
-    }
-    if e != 0 {
-        return false;
-    }
-    f == 0
-}
-
-// The end of cell k.
-fn end_at(words: &[u32], c: u32, k: u32) -> u32
-    requires { ⌜ Room (now words) c × (k < c) ⌝ }
-    ensures { λ r. ⌜ r ≡ getD (now (words .entry)) (2 + 8 * k) 0 ⌝ }
-{
-    words[2 + 8 * (k as usize)]
-}
-
-// Whether cell k is the run of one end.
-fn one_is(words: &[u32], c: u32, end: u32, k: u32) -> bool
-    requires { ⌜ Room (now words) c × (k ≤ c) ⌝ }
-    ensures { λ r. ⌜ r ≡ headsAre (now (words .entry)) c k (end ∷ []) ⌝ }
-{
-    if c <= k {
-        return false;
-    }
-    head_is(words, c, k, end, c)
-}
-
-// Whether the cells from k on are the run of the ends, which rise: the highest first, each with the cell before it as its next.
-fn run_of(words: &[u32], c: u32, ends: &[u32], k: u32) -> Told
-    requires { ⌜ Room (now words) c × (k ≤ c) ⌝ }
-    ensures { λ r. ⌜ r ≡ toldRun (now (words .entry)) c k (now (ends .entry)) ⌝ }
-{
-    let mut i = ends.len();
-    let mut next = k;
-    let mut head = c;
-    while 0 < i {
-        if c <= next {
-            return Told::Differs;
-        }
-        i -= 1;
-        if !head_is(words, c, next, ends[i], head) {
-            return Told::Differs;
-        }
-        head = next;
-        next += 1;
-    }
-    Told::Same(
-        next,
-        Below {
-            down: head,
-            side: 0,
-        },
-    )
-}
-
-// Whether the cells from k on are the run of the ends of the rules of the set in a field. The ends are written beside, over what stood there.
-fn run_is(
-    words: &[u32],
-    c: u32,
-    rules: &[u32],
-    set: &[u16],
-    field: u32,
-    k: u32,
-    ends: &mut [u32],
-) -> Told
-    requires { ⌜ Room (now words) c × (k ≤ c) × (2 * length (now set) ≤ length (now ends)) ⌝ }
-    ensures { λ r. ⌜ r ≡ toldRun (now (words .entry)) c k (endsOf (fieldAt (now (rules .entry)) field) (now (set .entry))) ⌝ }
-{
-    let n = rows::ends_of(rules, &rules[..0], set, field, ends);
-    run_of(words, c, &ends[..n], k)
-}
-
-// What stands where no field is left: the place of the first rule of the set, and no cell.
-fn leaf_is(set: &[u16], k: u32) -> Told
-    ensures { λ r. ⌜ r ≡ Told.Same k (onlyDown (firstOf (now (set .entry)))) ⌝ }
-{
-    Told::Same(
-        k,
-        Below {
-            down: rows::first_place(set),
-            side: 0,
-        },
-    )
-}
-
-// Whether each cell of a run of the last field, which stands from cell k up to end, names the first rule that covers its end. A cell above it says low.
-fn last_is(
-    words: &[u32],
-    c: u32,
-    rules: &[u32],
-    set: &[u16],
-    field: u32,
-    k: u32,
-    end: u32,
-    low: Below,
-) -> Told
-    requires { ⌜ Room (now words) c × (k ≤ c) × (toldRun (now words) c k (endsOf (fieldAt (now rules) field) (now set)) ≡ Told.Same end low) ⌝ }
-    ensures { λ r. ⌜ r ≡ told (now (words .entry)) c k (treeAt (now (rules .entry)) field 1 (now (set .entry))) ⌝ }
-{
-    let none = &rules[..0];
-    let mut i = k;
-    while i < end {
-        let e = end_at(words, c, i);
-        let named = rows::least(rules, none, set, field, e);
-        if !rest_is(
-            words,
-            c,
-            i,
-            Below {
-                down: named,
-                side: 0,
-            },
-        ) {
-            return Told::Differs;
-        }
-        i += 1;
-    }
-    Told::Same(end, low)
-}
+ghost use Rattle.stands.specs.Stands.{Room, told};
 
 // Whether the cells from k on are the tree of the rules of the set, which is the first n numbers of sets, over left fields from field on. Where all rules have one range from 0, the chain is one cell, with the same rules below it. Else it is compared end by end. The ends of each run in turn are written beside.
 fn compare_chain(
@@ -189,17 +26,17 @@ fn compare_chain(
 {
     let set = &sets[..n];
     if left == 0 {
-        return leaf_is(set, k);
+        return stands::leaf_is(set, k);
     }
     let none = &rules[..0];
     let high = rows::high(rules, none, rows::first_place(set), field);
     if rows::flat(rules, none, set, field, high) {
-        if !one_is(words, c, high, k) {
+        if !stands::one_is(words, c, high, k) {
             return Told::Differs;
         }
         if left == 1 {
             let named = rows::first_place(set);
-            if !rest_is(
+            if !stands::rest_is(
                 words,
                 c,
                 k,
@@ -225,7 +62,7 @@ fn compare_chain(
         ) else {
             return Told::Differs;
         };
-        if !rest_is(words, c, k, down) {
+        if !stands::rest_is(words, c, k, down) {
             return Told::Differs;
         }
         return Told::Same(past, Below { down: k, side: 0 });
@@ -249,17 +86,17 @@ fn compare_run(
     ensures { λ r. ⌜ r ≡ told (now (words .entry)) c k (treeAt (now (rules .entry)) field left (take n (now (sets .entry)))) ⌝ }
 {
     let set = &sets[..n];
-    let Told::Same(end, low) = run_is(words, c, rules, set, field, k, ends) else {
+    let Told::Same(end, low) = stands::run_is(words, c, rules, set, field, k, ends) else {
         return Told::Differs;
     };
     if left == 1 {
-        return last_is(words, c, rules, set, field, k, end, low);
+        return stands::last_is(words, c, rules, set, field, k, end, low);
     }
     let none = &rules[..0];
     let mut i = k;
     let mut b = end;
     while i < end {
-        let e = end_at(words, c, i);
+        let e = stands::end_at(words, c, i);
         let m = rows::narrow(rules, none, sets, n, field, e);
         let Told::Same(past, down) = compare_chain(
             words,
@@ -274,31 +111,13 @@ fn compare_run(
         ) else {
             return Told::Differs;
         };
-        if !rest_is(words, c, i, down) {
+        if !stands::rest_is(words, c, i, down) {
             return Told::Differs;
         }
         i += 1;
         b = past;
     }
     Told::Same(b, low)
-}
-
-// Whether the cells from k on are the free chain.
-fn free_from(words: &[u32], c: u32, k: u32) -> bool
-    requires { ⌜ Room (now words) c ⌝ }
-    ensures { λ r. ⌜ r ≡ same (from (now (words .entry)) k) (frees k (c - k)) ⌝ }
-{
-    let mut i = k;
-    while i < c {
-        if !head_is(words, c, i, 0, i + 1) {
-            return false;
-        }
-        if !rest_is(words, c, i, Below { down: 0, side: 0 }) {
-            return false;
-        }
-        i += 1;
-    }
-    true
 }
 
 // Whether the words, which are the part of a store of c cells from its two links on, are those of the tree of the rules of the set, which is the first n numbers of sets: the links, the tree from cell 0 on, and then the free chain with all other cells. The other numbers of sets, and ends, are scratch.
@@ -323,5 +142,5 @@ pub fn part_is(
     if words[1] != low.down {
         return false;
     }
-    free_from(words, c, past)
+    stands::free_from(words, c, past)
 }

@@ -208,3 +208,8 @@ carried-front k s c n front h rows before out l e m copied j t fields wide count
     let y : length h ≡ k .head = ap length e ∙ omega (arith, length-replicate {A = ℕ} (length (take (k .head) front) - 3) 0, s .three) in
     let z = simp (length-take, length-drop, length-append) at m in
     fresh-front k s c t front h out l (rw count at e) (carried-rows j k t rows before out _ fields wide (omega arith) f (omega arith) (omega arith) copied)
+
+-- THE FRONT of any table is as long
+pub front-length : (k : Kind) (sh : Shaped k) (c : ℕ) (t : Table) → length (frontText k c t) ≡ k .head + rowWords k
+unfolding frontText
+front-length k sh c t = simp length-append (omega (arith, head-length k sh c (length (t .rules)) [], rows-long k t))

@@ -31,7 +31,7 @@ pub fn fresh(front: &mut [u32], c: u32, action: u32, tops: &[u32], shape: Shape)
 {
     let head = shape.head as usize;
     write_head(&mut front[..head], c, 0, shape.mark);
-    table::fresh(action, tops, shape, &mut front[head..]);
+    moves::fresh(action, tops, shape, &mut front[head..]);
 }
 
 // Writes the front of a store of c cells that holds a table of n rules, whose rows are lent as a store of any kind with the same fields and the same width of a row has them. Zeros stand behind them.
@@ -42,7 +42,7 @@ pub fn carried(front: &mut [u32], c: u32, n: u32, rows: &[u32], tops: &[u32], sh
     let head = shape.head as usize;
     let end = front.len() - head;
     write_head(&mut front[..head], c, n, shape.mark);
-    table::copy(rows, 0, &mut front[head..], 0, end);
+    moves::copy(rows, 0, &mut front[head..], 0, end);
 }
 
 // Puts a rule, which is lent as the words of its row, into the front of a store with n rules, behind as many of them as stand before it. Only rows that hold a rule are moved.
@@ -54,7 +54,7 @@ pub fn put_rule(front: &mut [u32], n: u32, place: u32, row: &[u32], tops: &[u32]
     let width = shape.width;
     let at = table::row_start(width, place + 1);
     let end = head + (table::row_start(width, n + 2) as usize);
-    table::put(&mut front[head..end], width, at, row);
+    moves::put(&mut front[head..end], width, at, row);
     front[1] = n + 1;
 }
 
@@ -67,6 +67,6 @@ pub fn take_rule(front: &mut [u32], n: u32, place: u32, tops: &[u32], shape: Sha
     let width = shape.width;
     let at = table::row_start(width, place + 1);
     let end = head + (table::row_start(width, n + 1) as usize);
-    table::take_out(&mut front[head..end], width, at);
+    moves::take_out(&mut front[head..end], width, at);
     front[1] = n - 1;
 }

@@ -57,7 +57,7 @@ fn step(list: Gathered, place: usize, edit: Edit) -> Gathered
     let mut words = list.words;
     let at = 16 * place;
     words[at] = edit.remove;
-    table::copy(&row, 0, &mut words, at + 1, at + 16);
+    moves::copy(&row, 0, &mut words, at + 1, at + 16);
     Gathered {
         count: list.count,
         words,

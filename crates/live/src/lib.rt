@@ -23,7 +23,7 @@ pub struct Fate {
     pub dead: u32,
 }
 
-// The word of the rows at which the row of a number that stands begins; the default's is the first. (`audit::find` promises the rule that it found, and not where its row begins.)
+// The word of the rows at which the row of a number that stands begins; the default's is the first. (`seek::find` promises the rule that it found, and not where its row begins.)
 fn place(words: &[u32], number: u32, tops: &[u32], shape: Shape) -> u32
     requires { ⌜ Shaped (kindOf (now tops) shape) × Standing (kindOf (now tops) shape) (now words) number ⌝ }
     ensures { λ r. ⌜ r ≡ placeOf (kindOf (now (tops .entry)) shape) (now (words .entry)) number ⌝ }
@@ -51,7 +51,7 @@ pub fn dead_in(
     requires { ⌜ Shaped (kindOf (now tops) shape) × Scratch (suc (shape .most)) (length (now tops)) (now sets) (now ends) × (length (now out) ≡ length (now tops)) ⌝ }
     ensures { λ r. ⌜ life (r .answer) (r .dead) (now (out .exit)) ≡ lifeOf (kindOf (now (tops .entry)) shape) (now (words .entry)) number (now (out .entry)) ⌝ }
 {
-    let found = audit::find(words, number, tops, shape, sets, ends);
+    let found = seek::find(words, number, tops, shape, sets, ends);
     let answer = found.answer;
     if answer != 0 {
         return Fate { answer, dead: 0 };

@@ -18,7 +18,6 @@ ghost use Rattle.image.specs.Image.{imageLookup, imagePacket, imageTally, image
 ghost use Rattle.depths.specs.Depths.{imageWorst};
 ghost use Rattle.writing.specs.Writing.{beginSays, beginLeaves, addSays, addLeaves};
 ghost use Rattle.reamstork.specs.Face.{ruleOf, ruleRead, checkSays};
-use audit::Count;
 use freeze::Size;
 use gather::Edit;
 use ipv4::Rule;
@@ -26,6 +25,7 @@ use live::Life;
 use lookup::Found;
 use prefix::Range;
 use scan::Winner;
+use seek::Count;
 use series::Listed;
 use tally::Tallies;
 use worst::Most;
@@ -99,11 +99,11 @@ pub extern "C" fn reamstork_edit_list(words: &mut [u32], edits: &[Edit]) -> List
 pub extern "C" fn reamstork_check(words: &[u32]) -> u32
     ensures { λ r. ⌜ r ≡ checkSays (now (words .entry)) ⌝ }
 {
-    if store::check(words) { 0 } else { 9 }
+    if reading::check(words) { 0 } else { 9 }
 }
 
 // What was read, for C.
-fn for_c(read: store::Reading) -> Reading
+fn for_c(read: reading::Reading) -> Reading
     ensures { λ r. ⌜ (r .answer ≡ read .answer) × (ruleRead r ≡ given (read .rule)) ⌝ }
 {
     let rule = read.rule;
@@ -123,7 +123,7 @@ fn for_c(read: store::Reading) -> Reading
 pub extern "C" fn reamstork_read(words: &[u32], number: u32) -> Reading
     ensures { λ r. ⌜ (r .answer ≡ readSays (kindIn (now (words .entry))) (now (words .entry)) number) × (ruleRead r ≡ readGives (kindIn (now (words .entry))) (now (words .entry)) number) ⌝ }
 {
-    for_c(store::read(words, number))
+    for_c(reading::read(words, number))
 }
 
 // Reads the rule at a place. Places are counted from 1, by rising number.
@@ -131,7 +131,7 @@ pub extern "C" fn reamstork_read(words: &[u32], number: u32) -> Reading
 pub extern "C" fn reamstork_rule_at(words: &[u32], place: u32) -> Reading
     ensures { λ r. ⌜ (r .answer ≡ placeSays (kindIn (now (words .entry))) (now (words .entry)) place) × (ruleRead r ≡ placeGives (kindIn (now (words .entry))) (now (words .entry)) place) ⌝ }
 {
-    for_c(store::rule_at(words, place))
+    for_c(reading::rule_at(words, place))
 }
 
 // Counts the cells in use.
@@ -139,7 +139,7 @@ pub extern "C" fn reamstork_rule_at(words: &[u32], place: u32) -> Reading
 pub extern "C" fn reamstork_cells(words: &[u32]) -> Count
     ensures { λ r. ⌜ (r .answer ≡ cellsSays (kindIn (now (words .entry))) (now (words .entry))) × (r .cells ≡ cellsGives (kindIn (now (words .entry))) (now (words .entry))) ⌝ }
 {
-    store::cells(words)
+    reading::cells(words)
 }
 
 // Says whether the rule of a number never wins, and for one that does the least record that it decides.

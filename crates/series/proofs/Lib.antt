@@ -1,4 +1,2 @@
-pub mod Sets
-pub mod Moves
 pub mod Decided
 pub mod Taken

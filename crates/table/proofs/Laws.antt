@@ -9,15 +9,15 @@ use native.Mathlib.Numerals.{add-one}
 use lib.Dec.{ltb, leb, eqb}
 use lib.ListN.{length, getD, take, drop, set, List·getD-eq-default, drop-of-length-le}
 use lib.Seq.{drop-cons, take-suc-set}
-use borrow.Author.Tests.{ltb-true, ltb-false, lt-ltb, le-ltb, eq-eqb, ne-eqb, eqb-true, eqb-false, le-leb, lt-leb}
+use borrow.Author.Tests.{ltb-true, ltb-false, eq-eqb, ne-eqb, eqb-true, eqb-false, le-leb, lt-leb}
 use Rattle.model.specs.Lists.{same, upTo}
 use Rattle.model.specs.Rules.{rangesRight}
-use Rattle.model.specs.Table.{Kind, Rule, rowWords, fieldsFrom, defaultRule, risingFrom, allRight, asksFor, portsRight, ruleRight}
+use Rattle.model.specs.Table.{Kind, Rule, fieldsFrom, defaultRule, risingFrom, allRight, asksFor, portsRight, ruleRight}
 use Rattle.model.proofs.Tests.{by-test, never}
 use Rattle.model.proofs.UpTo.{length-upTo, getD-upTo, same-false, true-same}
-use Rattle.model.proofs.Grid.{row-ends, getD-grid, grid-is}
+use Rattle.model.proofs.Grid.{getD-grid, grid-is}
 use Rattle.rows.specs.Rows.{numberIn, actionIn, lowIn, highIn}
-use Rattle.table.specs.Rows.{noRule, rowWord, placed, rowsText, ruleIn, tableIn, places, freshWord, Rowed, Tells, First, Zeros, Blank}
+use Rattle.table.specs.Rows.{noRule, rowWord, placed, rowsText, ruleIn, tableIn, places, Rowed, Tells, First, Zeros, Blank}
 
 -- the words of a rule's row
 pub row-number : (r : Rule) → rowWord r 0 ≡ r .number
@@ -206,16 +206,6 @@ module _ (w : ℕ) (rows : List ℕ) (u at p : ℕ) (e : at ≡ w * p) where
 
   pub blank-not : (a b : ℕ) → a ≤ p → p < b → (Zeros rows (at + u) (at + w) → ⊥) → Blank w rows u a b → ⊥
   blank-not a b l g n h = n (λ i x y. let z : w * p + (i - at) ≡ i = omega arith in rw z at (h p (i - at) l g (omega arith) (omega arith)))
-
--- the rows of the default alone
-pub fresh-rows : (k : Kind) (a : ℕ) → upTo (rowWords k) (freshWord k a) ≡ rowsText k (record { action = a; rules = [] })
-unfolding rowsText placed
-fresh-rows k a = grid-is 0 (upTo (rowWords k) (freshWord k a)) (k .width) (suc (k .most)) (λ p. rowWord (placed k (record { action = a; rules = [] }) p)) (length-upTo _ _) (λ p j u v.
-    getD-upTo (rowWords k) (freshWord k a) (k .width * p + j) 0 (omega (arith, row-ends (k .width) p (suc (k .most)) u)) ∙ go p j v)
-  where
-    go : (p j : ℕ) → j < k .width → freshWord k a (k .width * p + j) ≡ rowWord (placed k (record { action = a; rules = [] }) p) j
-    go zero j v = let w : k .width * 0 + j ≡ j = omega arith in rw (w, lt-ltb j (k .width) v)
-    go (suc p) j v = rw (le-ltb (k .width * suc p + j) (k .width) (omega arith)) (sym (row-none j))
 
 -- Going through the rules: p of them are done, x is the number of the next one.
 module _ (k : Kind) (n : ℕ) (rows : List ℕ) (p x at : ℕ) (h : p < n) (q : at ≡ k .width * (p + 1)) (e : x ≡ numberIn rows at) where

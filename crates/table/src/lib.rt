@@ -1,15 +1,14 @@
-// The table of a store in its rows: as many and as wide as its kind says, the default's first, then the rules by rising number, then rows of zeros. Read, held to the limits, searched, and edited where they stand.
+// The table of a store in its rows: as many and as wide as its kind says, the default's first, then the rules by rising number, then rows of zeros. Read, held to the limits, and searched.
 ghost use mathlib.Core.Path.{_≡_};
 ghost use mathlib.Core.Bool.{true, _&&_};
-ghost use mathlib.Core.List.{[]};
 ghost use Prim.Native.Nat.{suc, _+_, _-_, _*_, _%_, _≤_, _<_};
 ghost use lib.Dec.{leb, eqb};
 ghost use lib.ListN.{length, getD, take};
-ghost use Rattle.model.specs.Lists.{same, upTo};
+ghost use Rattle.model.specs.Lists.{same};
 ghost use Rattle.model.specs.Rules.{rangesRight};
-ghost use Rattle.model.specs.Table.{rowWords, defaultRule, stands, fieldsFrom, risingFrom, portsRight, ruleRight, allRight};
+ghost use Rattle.model.specs.Table.{defaultRule, stands, fieldsFrom, risingFrom, portsRight, ruleRight, allRight};
 ghost use Rattle.rows.specs.Rows.{numberIn, actionIn, lowIn, highIn};
-ghost use Rattle.table.specs.Rows.{kindOf, Raised, rowWord, rowsText, ruleIn, tableIn, places as placesOf, ahead, putWord, takeWord, freshWord, Rowed, Copied, Tells, First, Zeros, Blank};
+ghost use Rattle.table.specs.Rows.{kindOf, rowWord, rowsText, ruleIn, tableIn, places as placesOf, ahead, Rowed, Tells, First, Zeros, Blank};
 
 // What the layout of a store goes by, besides the tops of its fields: which field is the destination port's, with the source port's and the mark of packets without ports behind it, how many rules it takes, the words of a row, the words before the rows, and what word 2 says.
 pub struct Shape {
@@ -28,7 +27,7 @@ pub fn word(rows: &[u32], i: usize) -> u32
 }
 
 // What word j of the default's row has to be, where its action is given: number 65,535, and the whole range of each field.
-fn default_word(action: u32, tops: &[u32], j: usize, shape: Shape) -> u32
+pub fn default_word(action: u32, tops: &[u32], j: usize, shape: Shape) -> u32
     ensures { λ r. ⌜ r ≡ rowWord (defaultRule (kindOf (now (tops .entry)) shape) action) j ⌝ }
 {
     if j == 0 {
@@ -282,73 +281,6 @@ pub fn stands_behind(rows: &[u32], n: u32, p: u32, x: u32, tops: &[u32], shape: 
     number(rows, row_start(shape.width, p + 1)) == x
 }
 
-// How far words can be copied: from a place on to an end, where others are read from a start on and there are so many.
-fn reach(at: usize, end: usize, start: usize, there: usize) -> usize
-    requires { ⌜ at ≤ end ⌝ }
-    ensures { λ r. ⌜ (at ≤ r) × (r ≤ end) × (start + (r - at) ≤ start + (there - start)) × (r < end → there ≤ start + (r - at)) ⌝ }
-{
-    if there <= start {
-        return at;
-    }
-    if there - start < end - at {
-        return at + (there - start);
-    }
-    end
-}
-
-// Writes into out, from a place on to an end, the words of a slice from a start on; zeros where it has no more.
-pub fn copy(from: &[u32], start: usize, out: &mut [u32], at: usize, end: usize)
-    requires { ⌜ (at ≤ end) × (end ≤ length (now out)) × (start ≤ 65536) ⌝ }
-    ensures { λ _. ⌜ Copied (now (from .entry)) start (now (out .entry)) (now (out .exit)) at end ⌝ }
-{
-    let stop = reach(at, end, start, from.len());
-    let mut i = at;
-    while i < stop {
-        out[i] = from[start + (i - at)];
-        i += 1;
-    }
-    while i < end {
-        out[i] = 0;
-        i += 1;
-    }
-}
-
-// Moves the words from a place on up by as many as a row has. The last ones are lost, and the first stay where they were as well.
-fn move_up(rows: &mut [u32], at: usize, width: usize)
-    requires { ⌜ at + width ≤ length (now rows) ⌝ }
-    ensures { λ _. ⌜ Raised (now (rows .entry)) (now (rows .exit)) at width ⌝ }
-{
-    let mut i = rows.len();
-    while at + width < i {
-        i -= 1;
-        rows[i] = rows[i - width];
-    }
-}
-
-// Puts a row into the rows, where it is to begin at a word: those from there on move up, and the last one is lost.
-pub fn put(rows: &mut [u32], width: u32, at: u32, row: &[u32])
-    requires { ⌜ at + width ≤ length (now rows) ⌝ }
-    ensures { λ _. ⌜ now (rows .exit) ≡ upTo (length (now (rows .entry))) (putWord width (now (rows .entry)) at (now (row .entry))) ⌝ }
-{
-    let p = at as usize;
-    let w = width as usize;
-    move_up(rows, p, w);
-    copy(row, 0, rows, p, p + w);
-}
-
-// Takes the row that begins at a word out of the rows: those behind it move down, and a row of zeros comes last.
-pub fn take_out(rows: &mut [u32], width: u32, at: u32)
-    requires { ⌜ at ≤ length (now rows) ⌝ }
-    ensures { λ _. ⌜ now (rows .exit) ≡ upTo (length (now (rows .entry))) (takeWord width (now (rows .entry)) at) ⌝ }
-{
-    let w = width as usize;
-    let mut i = at as usize;
-    while i < rows.len() {
-        rows[i] = word(rows, i + w);
-        i += 1;
-    }
-}
-
 // Writes where the rows of a table of n rules begin, by rising number, the default's last.
 pub fn places(width: u32, n: u32, out: &mut [u16])
     requires { ⌜ (width ≤ 31) × (n ≤ 512) × (n < length (now out)) ⌝ }
@@ -360,26 +292,4 @@ pub fn places(width: u32, n: u32, out: &mut [u16])
         i += 1;
     }
     out[n as usize] = 0;
-}
-
-// Word i of the rows of a table that has the default alone, with its action.
-fn fresh_word(action: u32, tops: &[u32], i: usize, shape: Shape) -> u32
-    ensures { λ r. ⌜ r ≡ freshWord (kindOf (now (tops .entry)) shape) action i ⌝ }
-{
-    if i < (shape.width as usize) {
-        return default_word(action, tops, i, shape);
-    }
-    0
-}
-
-// Writes the rows of a table that has the default alone, with its action.
-pub fn fresh(action: u32, tops: &[u32], shape: Shape, out: &mut [u32])
-    requires { ⌜ length (now out) ≡ rowWords (kindOf (now tops) shape) ⌝ }
-    ensures { λ _. ⌜ now (out .exit) ≡ rowsText (kindOf (now (tops .entry)) shape) (record { action = action; rules = [] }) ⌝ }
-{
-    let mut i: usize = 0;
-    while i < out.len() {
-        out[i] = fresh_word(action, tops, i, shape);
-        i += 1;
-    }
 }

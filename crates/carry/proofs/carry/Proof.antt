@@ -8,7 +8,7 @@ use lib.Seq.{length-take-le}
 use Rattle.table.specs.Rows.{kindOf}
 use Rattle.layout.proofs.Parts.{scratch-few, part-here}
 use Rattle.layout.proofs.Passed.{sound-room}
-use Rattle.change.proofs.Planting.{still-long}
+use Rattle.plant.proofs.Planting.{still-long}
 use Rattle.carry.proofs.Carried.{carry-done, carry-kept, goes, carried-bare, carried-room, carried-words}
 use Rattle.carry.proofs.carry.Statement.{statement}
 use Rattle.carry.proofs.carry.Tie as tie

@@ -11,7 +11,7 @@ use Rattle.cells.specs.Text.{at, onlyDown}
 use Rattle.cells.specs.States.{firstFree}
 use Rattle.cells.proofs.Runs.{took}
 use Rattle.cells.proofs.Lent.{lent, back-drop, laid-back}
-use Rattle.cells.proofs.Build.{laying, lay-room, lay-built, laid, wrote-end}
+use Rattle.cells.proofs.Lay.{laying, lay-room, lay-built, laid, wrote-end}
 use Rattle.cells.proofs.build_one.Statement.{statement}
 use Rattle.cells.proofs.build_one.Tie as tie
 

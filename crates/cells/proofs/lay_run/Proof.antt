@@ -8,7 +8,7 @@ use lib.ListN.{length, length-set}
 use borrow.Author.Needs.{needs}
 use Rattle.cells.specs.Text.{frees}
 use Rattle.cells.specs.States.{State}
-use Rattle.cells.proofs.Build.{Laying, laying, lay-room, lay-built, laid}
+use Rattle.cells.proofs.Lay.{Laying, laying, lay-room, lay-built, laid}
 use Rattle.cells.proofs.lay_run.Statement.{statement}
 use Rattle.cells.proofs.lay_run.Tie as tie
 

@@ -10,8 +10,9 @@ use Rattle.table.specs.Rows.{kindOf}
 use Rattle.layout.specs.Store.{tableOf}
 use Rattle.layout.proofs.Sound.{sound, count-is}
 use Rattle.layout.proofs.Passed.{sound-room, sound-within, sound-planted}
-use Rattle.change.proofs.Planting.{still-long, ready-bare, ready-room, done-words}
-use Rattle.change.proofs.Answers.{delete-done, delete-kept, deleted, delete-place, delete-count, delete-right, delete-cells, front-stays}
+use Rattle.plant.proofs.Planting.{still-long, ready-bare, ready-room, done-words}
+use Rattle.change.proofs.Answers.{delete-done, delete-kept, deleted, delete-place, delete-count, delete-right, delete-cells}
+use Rattle.plant.proofs.Left.{front-stays}
 use Rattle.change.proofs.delete.Statement.{statement}
 use Rattle.change.proofs.delete.Tie as tie
 

@@ -10,8 +10,9 @@ use Rattle.table.specs.Rows.{kindOf, ruleIn}
 use Rattle.layout.specs.Store.{tableOf}
 use Rattle.layout.proofs.Sound.{sound, count-is}
 use Rattle.layout.proofs.Passed.{sound-room, sound-within, sound-planted}
-use Rattle.change.proofs.Planting.{still-long, ready-bare, ready-room, done-words}
-use Rattle.change.proofs.Answers.{insert-done, insert-kept, inserted, insert-room, insert-place, insert-count, insert-right, insert-cells, front-stays}
+use Rattle.plant.proofs.Planting.{still-long, ready-bare, ready-room, done-words}
+use Rattle.change.proofs.Answers.{insert-done, insert-kept, inserted, insert-room, insert-place, insert-count, insert-right, insert-cells}
+use Rattle.plant.proofs.Left.{front-stays}
 use Rattle.change.proofs.insert.Statement.{statement}
 use Rattle.change.proofs.insert.Tie as tie
 

@@ -17,22 +17,23 @@ use Rattle.rows.proofs.Room.{set-fits, sets-fit, ends-fit, scratch-on, scratch-
 use Rattle.cells.specs.declared.Below.{Below}
 use Rattle.cells.specs.Text.{onlyDown}
 use Rattle.cells.specs.States.{Narrows}
-use Rattle.compare.specs.declared.Told.{Told}
-use Rattle.compare.specs.declared.Told.the-variants.{Same, Differs}
-use Rattle.compare.specs.Compare.{told, restIs}
-use Rattle.compare.proofs.Steps.{compared-none, compared-run, compared-start, compared-end, Comparing, Turn, turn-not, turn-no, turn-on, flat-no, flat-inside, flat-not, flat-no-rest, flat-same}
+use Rattle.stands.specs.declared.Told.{Told}
+use Rattle.stands.specs.declared.Told.the-variants.{Same, Differs}
+use Rattle.stands.specs.Stands.{told, restIs}
+use Rattle.stands.proofs.Steps.{compared-none, compared-run, compared-start, compared-end}
+use Rattle.compare.proofs.Turns.{Comparing, Turn, turn-not, turn-no, turn-on, flat-no, flat-inside, flat-not, flat-no-rest, flat-same}
 use Rattle.compare.proofs.compare_chain.Reads as chain
 use Rattle.compare.proofs.compare_chain.Kinds as chain-kinds
 use Rattle.compare.proofs.+compare_chain+compare_run.Lts-compare_chain as chain-lts
 use Rattle.compare.proofs.compare_run.Reads as run
 use Rattle.compare.proofs.compare_run.Kinds as run-kinds
 use Rattle.compare.proofs.+compare_chain+compare_run.Lts-compare_run as run-lts
-use Rattle.compare.proofs.end_at.Reads as end-at
-use Rattle.compare.proofs.last_is.Reads as last-is
-use Rattle.compare.proofs.leaf_is.Reads as leaf-is
-use Rattle.compare.proofs.one_is.Reads as one-is
-use Rattle.compare.proofs.rest_is.Reads as rest-is
-use Rattle.compare.proofs.run_is.Reads as run-is
+use Rattle.stands.proofs.end_at.Reads as end-at
+use Rattle.stands.proofs.last_is.Reads as last-is
+use Rattle.stands.proofs.leaf_is.Reads as leaf-is
+use Rattle.stands.proofs.one_is.Reads as one-is
+use Rattle.stands.proofs.rest_is.Reads as rest-is
+use Rattle.stands.proofs.run_is.Reads as run-is
 use Rattle.rows.proofs.first_place.Reads as first-place
 use Rattle.rows.proofs.flat.Reads as flat
 use Rattle.rows.proofs.high.Reads as high

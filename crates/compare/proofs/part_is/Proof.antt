@@ -5,7 +5,7 @@ use lib.ListN.{take}
 use borrow.Author.Needs.{needs}
 use Rattle.model.specs.Rules.{Tree}
 use Rattle.rows.specs.Rows.{treeAt}
-use Rattle.compare.proofs.Steps.{part-differs, part-no-past, part-no-low, part-rest}
+use Rattle.compare.proofs.Turns.{part-differs, part-no-past, part-no-low, part-rest}
 use Rattle.compare.proofs.part_is.Statement.{statement}
 use Rattle.compare.proofs.part_is.Tie as tie
 

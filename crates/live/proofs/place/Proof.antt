@@ -9,7 +9,7 @@ use Rattle.model.specs.Table.{Kind, Shaped, risingFrom}
 use Rattle.table.specs.Rows.{kindOf, ahead}
 use Rattle.layout.specs.Store.{cellsIn}
 use Rattle.layout.proofs.Sound.{Sound, sound, Roomy}
-use Rattle.audit.proofs.Read.{slice-table}
+use Rattle.seek.proofs.Read.{slice-table}
 use Rattle.live.proofs.Laws.{room, place-default, place-rule}
 use Rattle.live.proofs.place.Statement.{statement}
 use Rattle.live.proofs.place.Tie as tie

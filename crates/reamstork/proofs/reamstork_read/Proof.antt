@@ -1,4 +1,4 @@
--- `reamstork::reamstork_read` meets its contract: what `store::read` gives, for C.
+-- `reamstork::reamstork_read` meets its contract: what `reading::read` gives, for C.
 -- Assumes nothing.
 use borrow.Author.Needs.{needs}
 use mathlib.Core.Path.{_∙_}

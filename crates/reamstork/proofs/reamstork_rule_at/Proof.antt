@@ -1,4 +1,4 @@
--- `reamstork::reamstork_rule_at` meets its contract: what `store::rule_at` gives, for C.
+-- `reamstork::reamstork_rule_at` meets its contract: what `reading::rule_at` gives, for C.
 -- Assumes nothing.
 use borrow.Author.Needs.{needs}
 use mathlib.Core.Path.{_∙_}

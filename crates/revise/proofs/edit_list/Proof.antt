@@ -10,13 +10,14 @@ use Rattle.table.specs.Rows.{kindOf}
 use Rattle.layout.specs.Store.{tableOf}
 use Rattle.layout.proofs.Sound.{sound}
 use Rattle.layout.proofs.Passed.{sound-room, sound-within, sound-most, sound-planted}
-use Rattle.change.proofs.Planting.{still-long, ready-bare, ready-room, done-words}
-use Rattle.change.proofs.Answers.{front-stays}
+use Rattle.plant.proofs.Planting.{still-long, ready-bare, ready-room, done-words}
+use Rattle.plant.proofs.Left.{front-stays}
 use Rattle.series.specs.Edits.{editedAll, editsFrom}
-use Rattle.revise.specs.Inner.{Fronts}
+use Rattle.lists.specs.Inner.{Fronts}
 use Rattle.series.proofs.Taken.{accepted, all-right, all-fits}
-use Rattle.revise.proofs.Applied.{count-before}
-use Rattle.revise.proofs.Listed.{accepted-few, list-done, list-kept}
+use Rattle.lists.proofs.Applied.{count-before}
+use Rattle.lists.proofs.Listed.{accepted-few}
+use Rattle.revise.proofs.Listed.{list-done, list-kept}
 use Rattle.revise.proofs.edit_list.Statement.{statement}
 use Rattle.revise.proofs.edit_list.Tie as tie
 

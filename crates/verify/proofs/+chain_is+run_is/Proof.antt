@@ -15,10 +15,11 @@ use Rattle.rows.specs.Rows.{treeAt, Flat}
 use Rattle.rows.proofs.Room.{set-fits, set-long, sets-fit, set-ends-fit, scratch-on, scratch-under}
 use Rattle.blocks.specs.Blocks.{downMark}
 use Rattle.blocks.specs.Written.{linkPlace}
-use Rattle.verify.specs.declared.Ends.the-variants.{At}
-use Rattle.verify.specs.declared.Told.the-variants.{Same, Differs}
-use Rattle.verify.specs.Verify.{Stands, Stood, Low}
-use Rattle.verify.proofs.Chain.{looks-start, looks-in, looks-above, looks-done, looks-not, stands-none, ends-same, ends-differ, flat-no, flat-room, flat-not, flat-no-link, flat-same, Looking, Turn, turn-not, turn-no, turn-on}
+use Rattle.levels.specs.declared.Ends.the-variants.{At}
+use Rattle.levels.specs.declared.Told.the-variants.{Same, Differs}
+use Rattle.levels.specs.Levels.{Stands, Stood, Low}
+use Rattle.levels.proofs.Chain.{looks-start, looks-in, looks-above, looks-done, looks-not, stands-none}
+use Rattle.verify.proofs.Turns.{ends-same, ends-differ, flat-no, flat-room, flat-not, flat-no-link, flat-same, Looking, Turn, turn-not, turn-no, turn-on}
 use Rattle.verify.proofs.chain_is.Reads as chain
 use Rattle.verify.proofs.chain_is.Kinds as chain-kinds
 use Rattle.verify.proofs.+chain_is+run_is.Lts-chain_is as chain-lts
@@ -29,12 +30,12 @@ use Rattle.rows.proofs.first_place.Reads as first-place
 use Rattle.rows.proofs.flat.Reads as flat
 use Rattle.rows.proofs.high.Reads as high
 use Rattle.rows.proofs.narrow.Reads as narrow
-use Rattle.verify.proofs.down_is.Reads as down-is
-use Rattle.verify.proofs.end_at.Reads as end-at
-use Rattle.verify.proofs.last_is.Reads as last-is
-use Rattle.verify.proofs.low_is.Reads as low-is
-use Rattle.verify.proofs.one_is.Reads as one-is
-use Rattle.verify.proofs.upper_is.Reads as upper-is
+use Rattle.levels.proofs.down_is.Reads as down-is
+use Rattle.levels.proofs.end_at.Reads as end-at
+use Rattle.levels.proofs.last_is.Reads as last-is
+use Rattle.levels.proofs.low_is.Reads as low-is
+use Rattle.levels.proofs.one_is.Reads as one-is
+use Rattle.levels.proofs.upper_is.Reads as upper-is
 use Rattle.verify.proofs.+chain_is+run_is.{statement}
 use Rattle.verify.proofs.+chain_is+run_is.Tie.{close}
 

@@ -6,7 +6,7 @@ use lib.ListN.{take}
 use borrow.Author.Needs.{needs}
 use Rattle.model.specs.Rules.{Tree}
 use Rattle.rows.specs.Rows.{treeAt}
-use Rattle.verify.proofs.Chain.{tree-differs, tree-room, tree-same}
+use Rattle.verify.proofs.Turns.{tree-differs, tree-room, tree-same}
 use Rattle.verify.proofs.tree_is.Statement.{statement}
 use Rattle.verify.proofs.tree_is.Tie as tie
 
