@@ -5,7 +5,6 @@ ghost use mathlib.Core.Path.{_≡_};
 ghost use mathlib.Core.List.{_++_};
 ghost use Prim.Native.Nat.{_+_, _≤_};
 ghost use lib.ListN.{length, take};
-ghost use lib.Seq.{paste};
 ghost use Rattle.capture.specs.declared.Next.the-variants.{Data};
 ghost use Rattle.capture.specs.Pcap.{nextOf};
 ghost use Rattle.listing.specs.Lines.{item, lineOf};
@@ -73,19 +72,7 @@ fn put(lines: &mut [u8], at: usize, n: u64, behind: u8) -> usize
 {
     let mut digits = [0u8; 20];
     let k = io::decimal(n, &mut digits);
-    copy(&digits[..k], lines, at);
+    octets::copy(&digits[..k], lines, at);
     lines[at + k] = behind;
     at + k + 1
-}
-
-// Copies all bytes of a slice to a place of another.
-fn copy(from: &[u8], to: &mut [u8], at: usize)
-    requires { ⌜ at + length (now from) ≤ length (now to) ⌝ }
-    ensures { λ _. ⌜ now (to .exit) ≡ paste (now (to .entry)) at (now (from .entry)) (length (now (from .entry))) ⌝ }
-{
-    let mut i: usize = 0;
-    while i < from.len() {
-        to[at + i] = from[i];
-        i += 1;
-    }
 }

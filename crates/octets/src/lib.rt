@@ -1,7 +1,8 @@
-// Numbers of 16 and 32 bits in bytes, the most significant byte first or last.
+// Numbers of 16 and 32 bits in bytes, the most significant byte first or last; and bytes copied.
 ghost use mathlib.Core.Path.{_≡_};
-ghost use Prim.Native.Nat.{_+_, _<_};
+ghost use Prim.Native.Nat.{_+_, _<_, _≤_};
 ghost use lib.ListN.{length};
+ghost use lib.Seq.{paste};
 ghost use Rattle.octets.specs.declared.Order.the-variants.{Big, Little};
 ghost use Rattle.octets.specs.Octets.{half, word};
 
@@ -55,4 +56,16 @@ fn little_word(s: &[u8], at: usize) -> u32
     ensures { λ r. ⌜ r ≡ word Little (now (s .entry)) at ⌝ }
 {
     half_at(Order::Little, s, at) + half_at(Order::Little, s, at + 2) * 65536
+}
+
+// Copies all bytes of a slice to a place of another.
+pub fn copy(from: &[u8], to: &mut [u8], at: usize)
+    requires { ⌜ at + length (now from) ≤ length (now to) ⌝ }
+    ensures { λ _. ⌜ now (to .exit) ≡ paste (now (to .entry)) at (now (from .entry)) (length (now (from .entry))) ⌝ }
+{
+    let mut i: usize = 0;
+    while i < from.len() {
+        to[at + i] = from[i];
+        i += 1;
+    }
 }

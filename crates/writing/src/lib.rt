@@ -1,6 +1,6 @@
 // Writing a classic capture file into lent bytes: its header, and a record behind what stands there. Numbers stand in it with the least significant byte first, whatever the machine.
 ghost use mathlib.Core.Path.{_≡_};
-ghost use Prim.Native.Nat.{_+_, _<_, _≤_};
+ghost use Prim.Native.Nat.{_+_, _≤_};
 ghost use lib.ListN.{length};
 ghost use lib.Seq.{paste};
 ghost use Rattle.writing.specs.Writing.{littleBytes, beginSays, beginLeaves, addSays, addLeaves};
@@ -22,7 +22,7 @@ pub fn begin(out: &mut [u8]) -> Written
             bytes: 0,
         };
     }
-    copy(
+    octets::copy(
         b"\xD4\xC3\xB2\xA1\x02\x00\x04\x00\x00\x00\x00\x00\x00\x00\x00\x00\x00\x40\x00\x00\x65\x00\x00\x00",
         out,
         0,
@@ -55,7 +55,7 @@ pub fn add(out: &mut [u8], seconds: u32, fraction: u32, original: u32, data: &[u
     put_little(out, 4, fraction);
     put_little(out, 8, captured);
     put_little(out, 12, original);
-    copy(data, out, 16);
+    octets::copy(data, out, 16);
     Written {
         answer: 0,
         bytes: 16 + captured,
@@ -71,16 +71,4 @@ fn put_little(out: &mut [u8], at: usize, n: u32)
     out[at + 1] = (n / 256 % 256) as u8;
     out[at + 2] = (n / 65536 % 256) as u8;
     out[at + 3] = (n / 16777216 % 256) as u8;
-}
-
-// Copies all bytes of a slice to a place of another.
-fn copy(from: &[u8], to: &mut [u8], at: usize)
-    requires { ⌜ at + length (now from) ≤ length (now to) ⌝ }
-    ensures { λ _. ⌜ now (to .exit) ≡ paste (now (to .entry)) at (now (from .entry)) (length (now (from .entry))) ⌝ }
-{
-    let mut i: usize = 0;
-    while i < from.len() {
-        to[at + i] = from[i];
-        i += 1;
-    }
 }

@@ -1,4 +1,4 @@
--- `listing::copy` meets its contract. The invariant: so far the first i bytes were copied.
+-- `octets::copy` meets its contract. The invariant: so far the first i bytes were copied.
 -- Assumes nothing.
 use mathlib.Core.Path.{_≡_}
 use Prim.Native.Nat.{_-_, _≤_}
@@ -7,8 +7,8 @@ use native.Mathlib.Omega.{arith}
 use borrow.Author.Needs.{needs}
 use lib.ListN.{length}
 use lib.Seq.{paste, paste-zero, paste-suc}
-use Rattle.listing.proofs.copy.Statement.{statement}
-use Rattle.listing.proofs.copy.Tie as tie
+use Rattle.octets.proofs.copy.Statement.{statement}
+use Rattle.octets.proofs.copy.Tie as tie
 
 abbrev Inv-loop : tie.InvT-loop
 Inv-loop from to₀ at i₀ to i = (i ≤ length from) × (length to ≡ length to₀) × (to ≡ paste to₀ at from i)
