@@ -1,4 +1,4 @@
-// The check of a store of any kind. Words are only read.
+// The check of a store of any kind, and whether words have room for one. Words are only read.
 ghost use mathlib.Core.Path.{_≡_};
 ghost use Prim.Native.Nat.{suc, _+_, _*_, _≤_};
 ghost use lib.ListN.{length};

@@ -111,7 +111,7 @@ fn build_under(
 }
 
 // Builds the tree of the rules of the set, which is the first n numbers of sets, in the part of a store with no tree, which has room for it. The words before base are the rules, and stay; the other numbers of sets, and ends, are scratch.
-pub fn plant(
+pub fn build(
     words: &mut [u32],
     base: usize,
     c: u32,

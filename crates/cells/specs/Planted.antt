@@ -1,4 +1,4 @@
--- What `build::plant` and `drop` ask of the words that they are lent.
+-- What `build::build` and `drop` ask of the words that they are lent.
 -- Assumes nothing: these are definitions.
 use mathlib.Core.Path.{_≡_}
 use mathlib.Core.List.{List}

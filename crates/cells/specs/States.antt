@@ -1,4 +1,4 @@
--- What the functions that lay, build and free ask and promise each other of the words, which they see as what stands before a cell and what stands from it on. No caller of `clear`, `drop` or `build::plant` needs these.
+-- What the functions that lay, build and free ask and promise each other of the words, which they see as what stands before a cell and what stands from it on. No caller of `clear`, `drop` or `build::build` needs these.
 -- Assumes nothing: these are definitions.
 use mathlib.Core.Path.{_≡_}
 use mathlib.Core.List.{List, [], _∷_, _++_}

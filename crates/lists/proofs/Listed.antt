@@ -10,7 +10,7 @@ use lib.ListN.{length, getD, take, drop}
 use borrow.Author.Tests.{eq-eqb, ne-eqb, lt-ltb, le-ltb}
 use Rattle.model.specs.Table.{Kind, rowWords}
 use Rattle.table.specs.Rows.{tableIn}
-use Rattle.layout.specs.Store.{cellsIn, tableOf, passes}
+use Rattle.layout.specs.Store.{cellsIn, passes}
 use Rattle.layout.proofs.Parts.{rows-slice}
 use Rattle.series.specs.declared.Listed.{Listed}
 use Rattle.series.specs.Edits.{Edit, listed, firstRefusal, listSays, editsFrom}

@@ -27,7 +27,7 @@ pub fn plant(
     let from = table::rows_end(shape) as usize;
     let end = from + (2 + 8 * (c as usize));
     table::places(shape.width, n, sets);
-    build::plant(
+    build::build(
         &mut words[head..end],
         from - head,
         c,

@@ -1,7 +1,7 @@
 // The table of a store in its rows: as many and as wide as its kind says, the default's first, then the rules by rising number, then rows of zeros. Read, held to the limits, and searched.
 ghost use mathlib.Core.Path.{_≡_};
 ghost use mathlib.Core.Bool.{true, _&&_};
-ghost use Prim.Native.Nat.{suc, _+_, _-_, _*_, _%_, _≤_, _<_};
+ghost use Prim.Native.Nat.{suc, _+_, _*_, _%_, _≤_, _<_};
 ghost use lib.Dec.{leb, eqb};
 ghost use lib.ListN.{length, getD, take};
 ghost use Rattle.model.specs.Lists.{same};

@@ -16,7 +16,7 @@ use Rattle.cells.specs.States.{firstFree, hung, State, Spare, Builds}
 use Rattle.cells.specs.declared.Below.{Below}
 use Rattle.cells.proofs.State.{st-head}
 use Rattle.cells.proofs.Lent.{first-at}
-use Rattle.build.proofs.Build.{Run-of, Turn, Filled, filled-start, fill-turn, below-is, fill-on, turn-room, turn-lt, turn-spare, down-room, filled-all, built-none, split, past-run, one-first, one-spare, one-room, one-built}
+use Rattle.build.proofs.Chains.{Run-of, Turn, Filled, filled-start, fill-turn, below-is, fill-on, turn-room, turn-lt, turn-spare, down-room, filled-all, built-none, split, past-run, one-first, one-spare, one-room, one-built}
 use borrow.Rule.Slice.PartMut.{midOf, mid-len}
 use borrow.Fn.Kinds.{In}
 use borrow.Fn.PlainCycle.{Measures, is, falls, and}

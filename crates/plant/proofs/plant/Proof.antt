@@ -25,7 +25,7 @@ plant-spec =
     (λ c. search needs)
     (λ c. search needs)
     (λ c. search needs)
-    -- plant-requires
+    -- build-requires
     (λ c κs.
     let m = c .before .before .before .before .before in
     let e = c .before .before .before .before .before .before .before in
@@ -42,4 +42,4 @@ plant-spec =
     let e = c .before .before .before .before .before .before .before .before .before .before .before .before .before .before in
     let s = c .before .before .before .before .before .before .before .before .before .before .before .before .before .before .before .before .before .before .before .before in
     let a = s .args in
-    sets-planted (kindOf (a .tops .now) (a .shape)) (a .c) (a .words .now) _ (e .rows-end .ensures .0) (s .pre .3) (a .n) _ (m .places .ensures) _ (p .plant .ensures)))
+    sets-planted (kindOf (a .tops .now) (a .shape)) (a .c) (a .words .now) _ (e .rows-end .ensures .0) (s .pre .3) (a .n) _ (m .places .ensures) _ (p .build .ensures)))

@@ -1,4 +1,4 @@
--- `build::plant` leaves the rules and behind them the part of their tree. Assumes nothing.
+-- `build::build` leaves the rules and behind them the part of their tree. Assumes nothing.
 use mathlib.Core.Path.{refl, _∙_}
 use native.Mathlib.Omega.{arith}
 use Prim.Native.Nat.{_+_}
@@ -7,11 +7,11 @@ use borrow.Author.Needs.{needs}
 use Rattle.model.specs.Rules.{stop}
 use Rattle.cells.proofs.Lent.{put-drop, put-take, whole}
 use Rattle.build.proofs.Part.{part-spare, part-planted}
-use Rattle.build.proofs.plant.Statement.{statement}
-use Rattle.build.proofs.plant.Tie as tie
+use Rattle.build.proofs.build.Statement.{statement}
+use Rattle.build.proofs.build.Tie as tie
 
-pub plant-spec : {M : Type 1} → statement M
-plant-spec =
+pub build-spec : {M : Type 1} → statement M
+build-spec =
     tie.close
     (tie.spec
     -- build-chain-requires
