@@ -107,6 +107,8 @@ class Proof:
         self.place = 'proofs/%s/Proof.antt' % folder
         self.path = ROOT / 'crates' / crate / self.place
         self.text = self.path.read_text()
+        if 'native.Mathlib.Omega' not in self.text:  # what is tried names it
+            self.text = self.text.replace('\nuse ', '\nuse native.Mathlib.Omega.{arith}\nuse ', 1)
         self.head = self.text[:self.text.index('\npub ' + re.search(r'(?m)^pub (\S+-spec) :', self.text)[1]) + 1]
         self.facts, self.types, self.spans = {}, {}, {}
         walks = self.walks(kit)
@@ -206,8 +208,6 @@ class Proof:
             kinds = ' κs' if 'κs' in text[begin:self.spans[begin]] else ''
             said = answer(['c' + path for path in facts[begin][::-1]])
             text = text[:begin] + '(λ c%s. %s)' % (kinds, said) + text[self.spans[begin]:]
-        if 'native.Mathlib.Omega' not in text:
-            text = text.replace('\nuse ', '\nuse native.Mathlib.Omega.{arith}\nuse ', 1)
         if 'search needs' not in text:
             text = text.replace('use borrow.Author.Needs.{needs}\n', '')
         self.path.write_text(text)
@@ -223,7 +223,8 @@ def main():
         for folder in sys.argv[2:]:
             proof = Proof(kit, base, crate, folder)
             facts = proof.least()
-            proof.write(facts)
+            if facts:
+                proof.write(facts)
             print('%s/%s: %d of %d needs' % (crate, folder, len(facts), len(proof.facts)), flush=True)
     finally:
         shutil.rmtree(work)
