@@ -1,4 +1,4 @@
-// The tree of a table planted in the cells of a store of any kind, and the start of a store. Every promise is one equation for the answer and for every lent word, whatever the words hold. No word is written before nothing can be refused any more. The sets and the ends of the rules are written into scratch that is lent.
+// The tree of a table planted in the cells of a store of any kind; and the start of a store, whose promise is one equation for the answer and for every lent word, whatever the words hold. No word is written before nothing can be refused any more. The sets and the ends of the rules are written into scratch that is lent.
 ghost use mathlib.Core.Path.{_≡_};
 ghost use Prim.Native.Nat.{suc, _≤_};
 ghost use lib.ListN.{length};
