@@ -5,14 +5,14 @@ ghost use Rattle.capture.specs.Pcap.{starts_with, by_magic, opened, next_of};
 use octets::Order;
 
 // What the first bytes of a file are: those of a capture that is accepted, or not.
-#[derive(Drop)]
+#[derive(Clone, Copy)]
 pub enum Opened {
     Capture(Order),
     Refused,
 }
 
 // What comes next behind the file header or a record.
-#[derive(Drop)]
+#[derive(Clone, Copy)]
 pub enum Next {
     // Nothing: the capture ends at a record's edge.
     Edge,

@@ -6,7 +6,7 @@ use libc::{STDIN_FILENO, STDOUT_FILENO};
 use script::Case;
 
 // There are two stores, with room for 16,384 words each: the one in hand begins at a word and has so many words, as has the one aside.
-#[derive(Drop)]
+#[derive(Clone, Copy)]
 struct Hand {
     at: usize,
     here: usize,
@@ -14,7 +14,7 @@ struct Hand {
 }
 
 // How many lines and how many cases there were, and how many of these differ.
-#[derive(Drop)]
+#[derive(Clone, Copy)]
 struct Tally {
     lines: u64,
     cases: u64,

@@ -6,7 +6,7 @@ ghost use Rattle.cells.specs.Planted.{Planted};
 ghost use Rattle.cells.specs.States.{first_free, wrote, zeros, Spare, Lays, Hangs, Laid, SomeRows, Gives, SomeHeld, SomeLoc, Drops};
 
 // What is below a cell, its words 2 and 3: the cell where a walk of the next field begins, or in the last field the word at which the row of the rule that the location names begins; and what stands beside that, which is nothing, 0.
-#[derive(Drop)]
+#[derive(Clone, Copy)]
 pub struct Below {
     pub down: u32,
     pub side: u32,

@@ -9,7 +9,7 @@ ghost use Rattle.layout.specs.Inner.{TableHeld};
 use table::Shape;
 
 // What an edit decides: its answer, and with 0 how many rules stand before the rule that it puts in or takes out.
-#[derive(Drop)]
+#[derive(Clone, Copy)]
 pub struct Decision {
     pub answer: u32,
     pub place: u32,

@@ -11,7 +11,7 @@ use table::Shape;
 
 // What is said of an image's size: the answer, and the words that it takes, or 0 with a refusal.
 #[repr(C)]
-#[derive(Drop)]
+#[derive(Clone, Copy)]
 pub struct Size {
     pub answer: u32,
     pub words: u32,

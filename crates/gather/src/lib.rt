@@ -6,7 +6,7 @@ use ipv4::Rule;
 
 // An edit: remove 0 inserts the rule, any other number deletes by number.
 #[repr(C)]
-#[derive(Drop)]
+#[derive(Clone, Copy)]
 pub struct Edit {
     pub remove: u32,
     pub number: u32,
@@ -16,7 +16,7 @@ pub struct Edit {
 }
 
 // The edits of a list as numbers, and how many edits the list has. Each has 16 words: remove, the row of its rule, and a 0. Of a list of more than 32 edits none is laid out, since such a list is refused by its length.
-#[derive(Drop)]
+#[derive(Clone, Copy)]
 pub struct Gathered {
     pub count: usize,
     pub words: [u32; 512],

@@ -12,7 +12,7 @@ ghost use Rattle.header.specs.Header.{
 use octets::Order;
 
 // A packet's values, in the order of the fields.
-#[derive(Drop)]
+#[derive(Clone, Copy)]
 pub struct Packet {
     pub destination: u32,
     pub source: u32,
@@ -23,7 +23,7 @@ pub struct Packet {
 }
 
 // What a slice of bytes is: a packet with these values, nothing that can be read, or the beginning of a packet whose header is sound.
-#[derive(Drop)]
+#[derive(Clone, Copy)]
 pub enum Header {
     Values(Packet),
     Unreadable,

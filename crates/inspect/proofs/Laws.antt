@@ -3,15 +3,15 @@
 use mathlib.Core.Path.{◌≡◌, sym, ap, ap₂, ◌∙◌}
 use mathlib.Core.Bool.{Bool, true, false, not}
 use mathlib.Core.List.{List, [], ◌∷◌, ◌++◌}
-use Prim.Native.Nat.{ℕ, suc, ◌+◌, ◌-◌, ◌*◌, ◌≤◌, ◌<◌}
+use Prim.Native.Nat.{ℕ, suc, ◌+◌, ◌-◌, ◌≤◌, ◌<◌}
 use native.Mathlib.Omega.{arith}
 use native.Mathlib.Nat.{mul-le-mul_right}
 use lib.Dec.{leb}
 use lib.ListN.{length, get_or, take, drop, replicate, length-take, length-drop, take-append-drop}
 use lib.Seq.{get_or-take, take_all, drop-drop, drop-cons, length-take-le}
-use borrow.Author.Tests.{leb-true, le-leb, not-false}
+use borrow.Author.Tests.{leb-true, le-leb}
 use Rattle.model.specs.Lists.{same}
-use Rattle.model.specs.Rules.{Tree, names, stop, loc, cells}
+use Rattle.model.specs.Rules.{Tree, cells}
 use Rattle.model.specs.Table.{Kind, Shaped, row_words, front, within, cells_of}
 use Rattle.model.proofs.Tests.{by_test, and_left, and_right, and_both, same_test}
 use Rattle.model.proofs.UpTo.{same_true, true_same}
@@ -25,30 +25,10 @@ use Rattle.layout.specs.Inner.{table_stands}
 use Rattle.layout.proofs.Bridge.{stored_cells}
 use Rattle.layout.proofs.Parts.{first_fails, second_fails, third_says, head_length, split_equal, head_of, of_head, rows_slice}
 use Rattle.layout.proofs.Sound.{count_is, zeros_are, are_zeros}
-use Rattle.cells.specs.Text.{width, under}
-use Rattle.cells.proofs.Text.{cells_sum}
-use Rattle.blocks.specs.Blocks.{depth, own_blocks, under_blocks, blocks, blocks_text}
-use Rattle.blocks.proofs.Writing.{size_parts}
-use Rattle.blocks.proofs.Words.{image_length}
+use Rattle.blocks.specs.Blocks.{blocks_text}
 use Rattle.frozen.specs.Frozen.{image_size, image_text, image_passes}
 use Rattle.frozen.proofs.Laws.{image_size_lem, few_blocks}
 use Rattle.inspect.specs.Body.{tree_of_rows, image_body}
-
--- a block has eight ends at most: so many cells a tree takes at most
-own_few : (t : Tree ℕ) → width t ≤ 8 * own_blocks t
-unfolding width own_blocks
-own_few (names b) = omega arith
-own_few stop = omega arith
-own_few (loc e u t) = omega (arith, size_parts (depth (width t + 1)) (width t + 1))
-
-under_few : (t : Tree ℕ) → under t ≤ 8 * under_blocks t
-unfolding under under_blocks
-under_few (names b) = omega arith
-under_few stop = omega arith
-under_few (loc e u t) = omega (arith, own_few u, under_few u, under_few t)
-
-pub few_cells : (t : Tree ℕ) (n : ℕ) → n ≡ 16 * blocks t → n ≤ 131072 → true ≡ leb (cells t) 65536
-few_cells t n e l = sym (le-leb (cells t) 65536 (omega (arith, cells_sum t, own_few t, under_few t)))
 
 -- the parts of an image that passes
 pub record SoundImage (k : Kind) (ws : List ℕ) : Type 0 where
@@ -224,10 +204,6 @@ module _ (k : Kind) (ws : List ℕ) (n E : ℕ) (g : E ≡ k.head + row_words k)
   pub wrong_blocks : (b d : Bool) → b ≡ table_stands k n rows_to → not b ≡ false → d ≡ same rest_to (blocks_text tree_to) → not d ≡ true → false ≡ image_body k n ws
   unfolding image_body
   wrong_blocks b d e t f u = second_fails _ (e ∙ ap (table_stands k n) rows_are) t (f ∙ ap₂ (λ x r. same x (blocks_text (tree_at r 0 (length k.tops) (places k.width n)))) rest_is_read rows_are) u
-
-  -- the words of the blocks are as many as the tree has
-  pub long_blocks : (d : Bool) (m : ℕ) → d ≡ same rest_to (blocks_text tree_to) → not d ≡ false → m ≡ length ws - (E + 2) → m ≡ 16 * blocks tree_to
-  long_blocks d m f u l = omega (arith, l, simp (length-take, length-drop) at (ap length (same_true rest_to (blocks_text tree_to) (sym f ∙ not-false d u))), image_length tree_to)
 
   pub right_body : (b d r : Bool) → b ≡ table_stands k n rows_to → not b ≡ false → d ≡ same rest_to (blocks_text tree_to) → not d ≡ false → r ≡ leb (cells tree_to) 65536 → r ≡ image_body k n ws
   unfolding image_body

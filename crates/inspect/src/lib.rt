@@ -1,20 +1,19 @@
 // The check of an image of any kind: whether all its words are those of the image of a table that a store can hold. Words are only read.
-ghost use Rattle.std.specs.Prelude.{◌≡◌, suc, ◌+◌, ◌*◌, ◌≤◌, leb, length};
+ghost use Rattle.std.specs.Prelude.{◌≡◌, suc, ◌+◌, ◌≤◌, leb, length};
 ghost use Rattle.model.specs.Lists.{same};
 ghost use Rattle.model.specs.Rules.{cells};
 ghost use Rattle.model.specs.Table.{Shaped, front};
 ghost use Rattle.model.specs.Ipv4.{kind_in};
 ghost use Rattle.rows.specs.Rows.{tree_at, Scratch};
 ghost use Rattle.table.specs.Rows.{kind_of, places as places_of};
-ghost use Rattle.blocks.specs.Blocks.{blocks, blocks_text};
+ghost use Rattle.blocks.specs.Blocks.{blocks_text};
 ghost use Rattle.frozen.specs.Frozen.{image_passes};
 ghost use Rattle.inspect.specs.Body.{image_body};
 
 use table::Shape;
 
-// Whether the tree of the n rules of the rows, whose blocks take so many words, takes at most as many cells as a store can have. A block has eight ends at most, so that cells are counted only where the blocks could hold more.
+// Whether the tree of the n rules of the rows takes at most as many cells as a store can have.
 fn cells_fit(
-    size: usize,
     rows: &[u32],
     n: u32,
     fields: u32,
@@ -22,12 +21,9 @@ fn cells_fit(
     sets: &mut [u16],
     ends: &mut [u32],
 ) -> bool
-    requires { (n ≤ 512) × (fields ≤ 62) × (width ≤ 31) × Scratch (suc n) fields sets.old ends.old × (size ≡ 16 * blocks (tree_at rows.now 0 fields (places_of width n))) }
+    requires { (n ≤ 512) × (fields ≤ 62) × (width ≤ 31) × Scratch (suc n) fields sets.old ends.old }
     ensures { result ≡ leb (cells (tree_at rows.now 0 fields (places_of width n))) 65536 }
 {
-    if size <= 131072 {
-        return true;
-    }
     table::places(width, n, sets);
     let none = &rows[..0];
     count::count_chain(rows, none, sets, (n as usize) + 1, 0, fields, 65536, ends) <= 65536
@@ -80,15 +76,7 @@ fn body_is(
     ) {
         return false;
     }
-    cells_fit(
-        image.len() - front,
-        &image[head..from],
-        n,
-        fields,
-        shape.width,
-        sets,
-        ends,
-    )
+    cells_fit(&image[head..from], n, fields, shape.width, sets, ends)
 }
 
 // The image check. The sets and the ends of the rules are written into scratch that is lent.

@@ -78,7 +78,7 @@ pub fn right(
 
 // A rule: six low ends and six high ends besides its number and its action.
 #[repr(C)]
-#[derive(Drop)]
+#[derive(Clone, Copy)]
 pub struct Rule {
     pub number: u32,
     pub action: u32,

@@ -8,7 +8,7 @@ use lookup::Found;
 use octets::Order;
 
 // What an argument asks for: the packets of an action, or nothing that can be done.
-#[derive(Drop)]
+#[derive(Clone, Copy)]
 pub enum Asked {
     Action(u32),
     Nothing,

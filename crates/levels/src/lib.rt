@@ -6,14 +6,14 @@ ghost use Rattle.blocks.specs.Written.{end_place, link_place, padded};
 ghost use Rattle.levels.specs.Levels.{Answers, Tells, TellsEnds, Low, One, LinksStand, UpperStand, EndsStand};
 
 // What a comparison tells: the blocks stand there, with the block behind the last one and where the link above leads; or they do not.
-#[derive(Drop)]
+#[derive(Clone, Copy)]
 pub enum Told {
     Same(usize, u32),
     Differs,
 }
 
 // What is told of the ends of a chain: how many they are, and from which block on they stand; or that they do not.
-#[derive(Drop)]
+#[derive(Clone, Copy)]
 pub enum Ends {
     At(usize, usize),
     Differ,

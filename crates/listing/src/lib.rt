@@ -12,7 +12,7 @@ use lookup::Found;
 use octets::Order;
 
 // What was read of the next record: a record of so many bytes, or the end of the list and how it ends.
-#[derive(Drop)]
+#[derive(Clone, Copy)]
 pub enum Read {
     Record(usize),
     End(u64),

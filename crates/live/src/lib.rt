@@ -10,7 +10,7 @@ use table::Shape;
 
 // What is said of a rule: the answer, 1 where no record makes it the winner, and for a live rule the least record that does; zeros elsewhere.
 #[repr(C)]
-#[derive(Drop)]
+#[derive(Clone, Copy)]
 pub struct Life {
     pub answer: u32,
     pub dead: u32,
@@ -18,7 +18,7 @@ pub struct Life {
 }
 
 // The same without the record: the answer, and 1 for a dead rule.
-#[derive(Drop)]
+#[derive(Clone, Copy)]
 pub struct Fate {
     pub answer: u32,
     pub dead: u32,

@@ -4,7 +4,7 @@ use mathlib.Core.Path.{◌≡◌, refl, sym, ap, ◌∙◌}
 use mathlib.Core.Bool.{Bool, true, false, cond, not}
 use mathlib.Core.Logic.{◌≢◌}
 use mathlib.Core.List.{List}
-use Prim.Native.Nat.{ℕ, zero, suc, ◌+◌, ◌-◌, ◌*◌, ◌/◌, ◌≤◌, ◌<◌}
+use Prim.Native.Nat.{ℕ, zero, suc, ◌+◌, ◌-◌, ◌*◌, ◌≤◌, ◌<◌}
 use native.Mathlib.Omega.{arith}
 use native.Mathlib.Nat.{add-zero}
 use native.Mathlib.Numerals.{add-one}
@@ -13,7 +13,7 @@ use lib.ListN.{length, get_or, take, drop, drop_of_length-le}
 use lib.Seq.{drop-cons}
 use borrow.Author.Tests.{lt-ltb, le-ltb, le-leb, lt-leb, leb-true, eq-eqb, ne_eqb, not-true, not-false}
 use Rattle.model.specs.Table.{Kind, Shaped, row_words, packet_right}
-use Rattle.model.proofs.Tests.{by_test, and_left, and_right}
+use Rattle.model.proofs.Tests.{by_test, and_left}
 use Rattle.header.specs.declared.Packet.{Packet}
 use Rattle.header.specs.declared.Header.{Header}
 use Rattle.header.specs.declared.Header.TheVariants.{Values}
@@ -22,7 +22,7 @@ use Rattle.cells.specs.Text.{cell_word}
 use Rattle.lookup.specs.declared.Walked.{Walked}
 use Rattle.lookup.specs.declared.Walked.TheVariants.{At, Lost}
 use Rattle.layout.specs.Store.{size, cells_in}
-use Rattle.lookup.specs.Walk.{seek_of, on_from, through_of, walk_of, refused, part_in, enough, begins, found_in, led_in, lookup_in, lookup_values, lookup_header, lookup_packet}
+use Rattle.lookup.specs.Walk.{seek_of, on_from, through_of, walk_of, refused, part_in, begins, found_in, lookup_in, lookup_values, lookup_header, lookup_packet}
 
 module _ (w : List ℕ) (c v : ℕ) where
   -- one cell of a field, where m more may be read
@@ -43,30 +43,6 @@ module _ (w : List ℕ) (c v : ℕ) where
   pub seek_spent : (m k r : ℕ) → m ≡ 0 → seek_of w c v m k r ≡ Lost
   unfolding seek_of
   seek_spent m k r e = rw e
-
-  pub place_first : (k : ℕ) → seek_of w c v c k 0 ≡ seek_of w c v (8 * c / 8) (8 * k / 8) (c - 8 * c / 8)
-  place_first k =
-      let x : 8 * c / 8 ≡ c = omega arith in
-      let y : 8 * k / 8 ≡ k = omega arith in
-      let z : c - c ≡ 0 = omega arith in
-      rw (x, y, z)
-
-  -- the same by the words before a cell, of which there are eight for each, and by eight for each cell that may be read
-  module _ (at left : ℕ) (p : 8 * (at / 8) ≡ at) (h : at / 8 < c) (q : 8 * (left / 8) ≡ left) (l : 0 < left) (f : left / 8 ≤ c) where
-    pub place_here : v ≤ get_or w (at + 2) 0 → seek_of w c v (left / 8) (at / 8) (c - left / 8) ≡ At (get_or w (at + 4) 0) (c + 1 - left / 8)
-    place_here e =
-        let x : 2 + 8 * (at / 8) ≡ at + 2 = omega arith in
-        let y : 2 + 8 * (at / 8) + 2 ≡ at + 4 = omega arith in
-        let z : c - left / 8 + 1 ≡ c + 1 - left / 8 = omega arith in
-        seek_here (left / 8) (at / 8) (c - left / 8) (omega arith) h (rw x e) ∙ rw (y, z)
-
-    pub place_next : (n : ℕ) → 8 * get_or w (at + 3) 0 ≡ n → get_or w (at + 2) 0 < v → seek_of w c v (left / 8) (at / 8) (c - left / 8) ≡ seek_of w c v ((left - 8) / 8) (n / 8) (c - (left - 8) / 8)
-    place_next n d e =
-        let x : 2 + 8 * (at / 8) ≡ at + 2 = omega arith in
-        let y : 2 + 8 * (at / 8) + 1 ≡ at + 3 = omega arith in
-        let z : c - left / 8 + 1 ≡ c - (left - 8) / 8 = omega arith in
-        let k : get_or w (at + 3) 0 ≡ n / 8 = omega arith in
-        seek_next (left / 8) ((left - 8) / 8) (at / 8) (c - left / 8) (omega arith) h (rw x e) ∙ rw (y, z, k)
 
   -- a field reads at most as many cells as it may
   few : (m k r d n : ℕ) → seek_of w c v m k r ≡ At d n → n ≤ r + m
@@ -102,57 +78,36 @@ pub walk_starts : (w : List ℕ) (c : ℕ) (vs : List ℕ) → walk_of w c vs �
 unfolding walk_of
 walk_starts w c vs = refl
 
--- a walk that is lost at once, and what is left, in a store of a kind
+-- the refusals at once, and what is left, in a store of a kind
 module _ (k : Kind) (w vs : List ℕ) where
-  pub led_kind : (get_or w 2 0 ≡ k.mark → ⊥) → Lost ≡ led_in k w vs
-  unfolding led_in
-  led_kind h = simp (ne_eqb _ k.mark h)
+  pub no_kind : (get_or w 2 0 ≡ k.mark → ⊥) → refused 9 ≡ lookup_in k w vs
+  unfolding lookup_in
+  no_kind h = simp (ne_eqb _ k.mark h)
 
   -- fewer than three words are no store
-  pub no_word : Shaped k → length w < 3 → Lost ≡ led_in k w vs
-  unfolding led_in
+  pub no_word : Shaped k → length w < 3 → refused 9 ≡ lookup_in k w vs
+  unfolding lookup_in
   no_word s h = by_test (eqb (get_or w 2 0) k.mark) (λ m. by_test (leb (length k.tops) (get_or w 0 0)) (λ a. by_test (leb (get_or w 0 0) 65536)
       (λ b. simp (m, a, b, lt-leb (size k (get_or w 0 0)) (length w) (omega (arith, s.three))))
       (λ b. simp (m, a, b))) (λ a. simp (m, a))) (λ m. simp m)
 
   module _ (m : get_or w 2 0 ≡ k.mark) where
-    pub few_cells : get_or w 0 0 < length k.tops → Lost ≡ led_in k w vs
-    unfolding led_in
+    pub few_cells : get_or w 0 0 < length k.tops → refused 9 ≡ lookup_in k w vs
+    unfolding lookup_in
     few_cells h = simp (eq-eqb _ k.mark m, lt-leb (length k.tops) _ h)
 
     module _ (a : length k.tops ≤ get_or w 0 0) where
-      pub many_cells : 65536 < get_or w 0 0 → Lost ≡ led_in k w vs
-      unfolding led_in
+      pub many_cells : 65536 < get_or w 0 0 → refused 9 ≡ lookup_in k w vs
+      unfolding lookup_in
       many_cells h = simp (eq-eqb _ k.mark m, le-leb (length k.tops) _ a, lt-leb _ 65536 h)
 
-      pub few_words : get_or w 0 0 ≤ 65536 → length w < size k (get_or w 0 0) → Lost ≡ led_in k w vs
-      unfolding led_in
+      pub few_words : get_or w 0 0 ≤ 65536 → length w < size k (get_or w 0 0) → refused 9 ≡ lookup_in k w vs
+      unfolding lookup_in
       few_words b h = simp (eq-eqb _ k.mark m, le-leb (length k.tops) _ a, le-leb _ 65536 b, lt-leb (size k (get_or w 0 0)) (length w) h)
 
-      pub led_on : get_or w 0 0 ≤ 65536 → size k (get_or w 0 0) ≤ length w → walk_of (part_in k w) (cells_in w) vs ≡ led_in k w vs
-      unfolding led_in
-      led_on b h = simp (eq-eqb _ k.mark m, le-leb (length k.tops) _ a, le-leb _ 65536 b, le-leb (size k (get_or w 0 0)) (length w) h)
-
--- what the lookup makes of where the walk ends
-module _ (k : Kind) (w vs : List ℕ) where
-  pub led_found : found_in k w (led_in k w vs) ≡ lookup_in k w vs
-  unfolding led_in lookup_in
-  led_found = by_test (enough k w) (λ e. simp e) (λ e. simp e)
-
-  pub no_kind : (get_or w 2 0 ≡ k.mark → ⊥) → refused 9 ≡ lookup_in k w vs
-  no_kind h = ap (found_in k w) (led_kind k w vs h) ∙ led_found
-
-  pub enough_words : get_or w 2 0 ≡ k.mark → length k.tops ≤ get_or w 0 0 → get_or w 0 0 ≤ 65536 → size k (get_or w 0 0) ≤ length w → found_in k w (walk_of (part_in k w) (cells_in w) vs) ≡ lookup_in k w vs
-  enough_words m a b h = ap (found_in k w) (led_on k w vs m a b h) ∙ led_found
-
-  -- a walk that comes to a place is one of words that are enough
-  pub led_room : (p r : ℕ) → At p r ≡ led_in k w vs → size k (get_or w 0 0) ≤ length w
-  unfolding led_in
-  led_room p r e = go (enough k w) refl e
-    where
-      go : (b : Bool) → enough k w ≡ b → At p r ≡ cond b (walk_of (part_in k w) (cells_in w) vs) Lost → size k (get_or w 0 0) ≤ length w
-      go true h e = leb-true (size k (cells_in w)) (length w) (and_right (leb (cells_in w) 65536) (leb (size k (cells_in w)) (length w)) (and_right (leb (length k.tops) (cells_in w)) _ (and_right (eqb (get_or w 2 0) k.mark) _ h)))
-      go false h e = let z : ◌≡◌ {A = ℕ} 0 1 = cc in absurd (omega arith)
+      pub enough_words : get_or w 0 0 ≤ 65536 → size k (get_or w 0 0) ≤ length w → found_in k w (walk_of (part_in k w) (cells_in w) vs) ≡ lookup_in k w vs
+      unfolding lookup_in
+      enough_words b h = simp (eq-eqb _ k.mark m, le-leb (length k.tops) _ a, le-leb _ 65536 b, le-leb (size k (get_or w 0 0)) (length w) h)
 
 -- the part of the words with the cells, from a word up to an end
 pub part_is : (k : Kind) (w vs : List ℕ) (c from : ℕ) → c ≡ cells_in w → from ≡ k.head + row_words k → walk_of (take (from + (2 + 8 * c) - from) (drop from w)) c vs ≡ walk_of (part_in k w) c vs

@@ -57,10 +57,6 @@ found_in k words (At p r) =
     (record { answer = 0; rule = get_or words (k.head + p) 0; action = get_or words (k.head + p + 1) 0; reads = r })
     (refused 9)
 
--- where the walk ends in a store of a kind: it is lost at once where the words are not enough
-unfoldable pub led_in : Kind → List ℕ → List ℕ → Walked
-led_in k words vs = cond (enough k words) (walk_of (part_in k words) (cells_in words) vs) Lost
-
 -- THE LOOKUP of some values, one for each field, in a store of a kind: "9 at once where the words name no c within its limits or are too few for it", or name another kind; then what the walk says
 unfoldable pub lookup_in : Kind → List ℕ → List ℕ → Found
 lookup_in k words vs = cond (enough k words) (found_in k words (walk_of (part_in k words) (cells_in words) vs)) (refused 9)

@@ -1,6 +1,6 @@
 -- The limits of a table: what they say of each rule, that a number stands for one rule, and that a table within them is given by the set of its rules.
 -- Assumes nothing.
-use mathlib.Core.Path.{◌≡◌, refl, sym, ap, ap₂, ◌∙◌}
+use mathlib.Core.Path.{◌≡◌, refl, sym, ap, ap₂, subst, ◌∙◌}
 use mathlib.Core.Logic.{◌⊎◌, inl, inr, ⊎_elim}
 use mathlib.Core.Bool.{true, false}
 use mathlib.Core.List.{List, [], ◌∷◌}
@@ -88,7 +88,10 @@ pub rule_in_lem : (d : Rule) (n : ℕ) (rs : List Rule) → stands n rs ≡ true
 rule_in_lem d n [] s = never (sym s)
 rule_in_lem d n (x ∷ rs) s = by_test (eqb x.number n)
     (λ t. rw t (inl refl, eqb-true x.number n t))
-    (λ t. let i = rule_in_lem d n rs (rw t at s) in rw t (inr i.0, i.1))
+    (λ t.
+    let i = rule_in_lem d n rs (rw t at s) in
+    let e : rule_at d n (x ∷ rs) ≡ rule_at d n rs = rw t in
+    subst (λ (r : Rule). In r (x ∷ rs) × (r.number ≡ n)) (sym e) (inr i.0, i.1))
 
 pub rule_none : (d : Rule) (n : ℕ) (rs : List Rule) → ((r : Rule) → In r rs → r.number ≡ n → ⊥) → rule_at d n rs ≡ d
 rule_none d n [] h = refl

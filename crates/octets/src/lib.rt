@@ -5,7 +5,7 @@ ghost use Rattle.octets.specs.declared.Order.TheVariants.{Big, Little};
 ghost use Rattle.octets.specs.Octets.{half, word};
 
 // The order of the bytes of a number: the most significant first, or last.
-#[derive(Drop)]
+#[derive(Clone, Copy)]
 pub enum Order {
     Big,
     Little,

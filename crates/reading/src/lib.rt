@@ -27,7 +27,7 @@ pub fn check(words: &[u32]) -> bool
 }
 
 // What reading a rule gives: the answer, and the rule, or zeros with a refusal.
-#[derive(Drop)]
+#[derive(Clone, Copy)]
 pub struct Reading {
     pub answer: u32,
     pub rule: Rule,

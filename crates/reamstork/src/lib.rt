@@ -33,7 +33,7 @@ use writing::Written;
 
 // What reading a rule gives: the answer, and the rule, or zeros with a refusal.
 #[repr(C)]
-#[derive(Drop)]
+#[derive(Clone, Copy)]
 pub struct Reading {
     pub answer: u32,
     pub number: u32,

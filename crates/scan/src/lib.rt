@@ -8,7 +8,7 @@ use ipv4::Rule;
 
 // What a scan answers: 0, and the number and the action of the rule that decides; or a refusal's number and zeros.
 #[repr(C)]
-#[derive(Drop)]
+#[derive(Clone, Copy)]
 pub struct Winner {
     pub answer: u32,
     pub rule: u32,
@@ -16,7 +16,7 @@ pub struct Winner {
 }
 
 // How far a scan for a packet is: whether a rule leads, and the number and the action that it would answer now.
-#[derive(Drop)]
+#[derive(Clone, Copy)]
 pub struct Lead {
     pub packet: Packet,
     pub found: bool,

@@ -3,7 +3,7 @@
 ghost use Rattle.std.specs.Prelude.{◌≡◌, ◌≤◌, ◌<◌, length};
 
 // A case: the code of its call, its bytes, the numbers given and those wanted, with zeros behind them, and how many bytes and numbers are given. Where something else than a number stands, or too many, 17 are given, and the last one wanted is 4,294,967,295.
-#[derive(Drop)]
+#[derive(Clone, Copy)]
 pub struct Case {
     pub code: u64,
     pub bytes: [u8; 128],
@@ -14,21 +14,21 @@ pub struct Case {
 }
 
 // The letters of a word as the digits of a number to the base 256, and the place behind them.
-#[derive(Drop)]
+#[derive(Clone, Copy)]
 pub struct Word {
     pub code: u64,
     pub next: usize,
 }
 
 // A number and the place behind it. 4,294,967,296 stands for none.
-#[derive(Drop)]
+#[derive(Clone, Copy)]
 pub struct Number {
     pub value: u64,
     pub next: usize,
 }
 
 // How many numbers or bytes there are, and the place behind them.
-#[derive(Drop)]
+#[derive(Clone, Copy)]
 pub struct Part {
     pub count: usize,
     pub next: usize,

@@ -8,7 +8,7 @@ ghost use Rattle.layout.specs.Store.{rows_of, table_of, read_says, place_says, c
 use table::Shape;
 
 // Where a rule stands: an answer, and with 0 the word of the rows at which its row begins.
-#[derive(Drop)]
+#[derive(Clone, Copy)]
 pub struct Place {
     pub answer: u32,
     pub row: u32,
@@ -77,7 +77,7 @@ pub fn find_at(
 
 // What counting the cells gives: the answer, and the cells in use, or 0 with a refusal.
 #[repr(C)]
-#[derive(Drop)]
+#[derive(Clone, Copy)]
 pub struct Count {
     pub answer: u32,
     pub cells: u32,

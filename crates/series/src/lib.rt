@@ -11,14 +11,14 @@ use table::Shape;
 
 // What a list of edits answers: 0 and 0, or the number of the first refusal and the place, counted from 1, of the edit that is refused.
 #[repr(C)]
-#[derive(Drop)]
+#[derive(Clone, Copy)]
 pub struct Listed {
     pub answer: u32,
     pub place: u32,
 }
 
 // How far a list is: the answer of an edit, and with 0 how many rules the set names then.
-#[derive(Drop)]
+#[derive(Clone, Copy)]
 struct Step {
     answer: u32,
     n: usize,

@@ -9,7 +9,7 @@ ghost use Rattle.stands.specs.Stands.{Room, from, head_is, rest_is, told, heads_
 use cells::Below;
 
 // What a comparison tells: it stands there, with the cell behind the last one and what a cell above it says; or it does not.
-#[derive(Drop)]
+#[derive(Clone, Copy)]
 pub enum Told {
     Same(u32, Below),
     Differs,

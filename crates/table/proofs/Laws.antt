@@ -5,7 +5,6 @@ use mathlib.Core.Bool.{Bool, true, false, not, ◌&&◌, ◌||◌}
 use mathlib.Core.List.{List, [], ◌∷◌, map}
 use Prim.Native.Nat.{ℕ, zero, suc, ◌+◌, ◌-◌, ◌*◌, ◌/◌, ◌%◌, ◌≤◌, ◌<◌}
 use native.Mathlib.Omega.{arith}
-use native.Mathlib.Nat.{mod-lt, div-add-mod}
 use native.Mathlib.Numerals.{add-one}
 use lib.Dec.{ltb, leb, eqb}
 use lib.ListN.{length, get_or, take, drop, set, get_or-eq_default, drop_of_length-le}
@@ -16,7 +15,7 @@ use Rattle.model.specs.Rules.{ranges_right}
 use Rattle.model.specs.Table.{Kind, Rule, fields_from, default_rule, rising_from, all_right, asks_for, ports_right, rule_right}
 use Rattle.model.proofs.Tests.{by_test, never}
 use Rattle.model.proofs.UpTo.{length_up_to, get_d_up_to, same_false, true_same}
-use Rattle.model.proofs.Grid.{get_d_grid, grid_is, row_starts, row_ends}
+use Rattle.model.proofs.Grid.{get_d_grid, grid_is}
 use Rattle.rows.specs.Rows.{number_in, action_in, low_in, high_in}
 use Rattle.table.specs.Rows.{no_rule, row_word, placed, rows_text, rule_in, table_in, places, Rowed, Tells, First, Zeros, Blank}
 
@@ -207,26 +206,6 @@ module _ (w : ℕ) (rows : List ℕ) (u at p : ℕ) (e : at ≡ w * p) where
 
   pub blank_not : (a b : ℕ) → a ≤ p → p < b → (Zeros rows (at + u) (at + w) → ⊥) → Blank w rows u a b → ⊥
   blank_not a b l g n h = n (λ i x y. let z : w * p + (i - at) ≡ i = omega arith in rw z at (h p (i - at) l g (omega arith) (omega arith)))
-
--- eight words more
-pub zeros_eight : (rows : List ℕ) (a i : ℕ) → Zeros rows a i → Zeros rows i (i + 8) → Zeros rows a (i + 8)
-zeros_eight rows a i h e j l u = by_test (ltb j i) (λ t. h j l (ltb-true j i t)) (λ t. e j (ltb-false j i t) u)
-
--- rows of zeros alone are words of zeros side by side
-module _ (w : ℕ) (rows : List ℕ) (a b : ℕ) where
-  zeros_blank : Zeros rows (w * a) (w * b) → Blank w rows 0 a b
-  zeros_blank z p j l g v x = z (w * p + j) (omega (arith, row_starts w a p l)) (omega (arith, row_ends w p b g))
-
-  blank_zeros : 0 < w → Blank w rows 0 a b → Zeros rows (w * a) (w * b)
-  blank_zeros o h i l g =
-      let p = i / w in
-      let e : w * p + i % w ≡ i = div-add-mod i w in
-      let low : a ≤ p = by_test (ltb p a) (λ t. absurd (omega (arith, e, mod-lt i o, row_ends w p a (ltb-true p a t)))) (λ t. ltb-false p a t) in
-      let high : p < b = by_test (ltb p b) (λ t. ltb-true p b t) (λ t. absurd (omega (arith, e, row_starts w b p (ltb-false p b t)))) in
-      rw e at (h p (i % w) low high (omega arith) (mod-lt i o))
-
-  pub bare_says : (r : Bool) → 0 < w → Tells r (Zeros rows (w * a) (w * b)) → Tells r (Blank w rows 0 a b)
-  bare_says r o s = (λ e. zeros_blank (s.0 e), λ e h. s.1 e (blank_zeros o h))
 
 -- Going through the rules: p of them are done, x is the number of the next one.
 module _ (k : Kind) (n : ℕ) (rows : List ℕ) (p x at : ℕ) (h : p < n) (q : at ≡ k.width * (p + 1)) (e : x ≡ number_in rows at) where

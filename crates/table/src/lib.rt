@@ -1,5 +1,5 @@
 // The table of a store in its rows: as many and as wide as its kind says, the default's first, then the rules by rising number, then rows of zeros. Read, held to the limits, and searched.
-ghost use Rattle.std.specs.Prelude.{◌≡◌, true, false, ◌&&◌, suc, ◌+◌, ◌*◌, ◌%◌, ◌≤◌, ◌<◌, leb, eqb, length, get_or, take};
+ghost use Rattle.std.specs.Prelude.{◌≡◌, true, ◌&&◌, suc, ◌+◌, ◌*◌, ◌%◌, ◌≤◌, ◌<◌, leb, eqb, length, get_or, take};
 ghost use Rattle.model.specs.Lists.{same};
 ghost use Rattle.model.specs.Rules.{ranges_right};
 ghost use Rattle.model.specs.Table.{default_rule, stands, fields_from, rising_from, ports_right, rule_right, all_right};
@@ -7,7 +7,7 @@ ghost use Rattle.rows.specs.Rows.{number_in, action_in, low_in, high_in};
 ghost use Rattle.table.specs.Rows.{kind_of, row_word, rows_text, rule_in, table_in, places as places_of, ahead, Rowed, Tells, First, Zeros, Blank};
 
 // What the layout of a store goes by, besides the tops of its fields: which field is the destination port's, with the source port's and the mark of packets without ports behind it, how many rules it takes, the words of a row, the words before the rows, and what word 2 says.
-#[derive(Drop)]
+#[derive(Clone, Copy)]
 pub struct Shape {
     pub ports: u32,
     pub most: u32,
@@ -87,43 +87,12 @@ fn first_is(rows: &[u32], tops: &[u32], shape: Shape) -> bool
     true
 }
 
-// Whether one of eight words, from a place on, is not 0. No test waits for another, so that a processor makes several at once.
-fn marked(rows: &[u32], at: usize) -> bool
-    requires { at + 8 ≤ length rows.now }
-    ensures { result ≡ false → Zeros rows.now at (at + 8) }
-{
-    let mut met = false;
-    let mut j: usize = 0;
-    while j < 8 {
-        if rows[at + j] != 0 {
-            met = true;
-        }
-        j += 1;
-    }
-    met
-}
-
-// How far the words from a place up to another are 0, by eights.
-fn clear_to(rows: &[u32], from: usize, to: usize) -> usize
-    requires { (from ≤ to) × (to ≤ length rows.now) }
-    ensures { (from ≤ result) × (result ≤ to) × Zeros rows.now from result }
-{
-    let mut i = from;
-    while 8 <= to - i {
-        if marked(rows, i) {
-            return i;
-        }
-        i += 8;
-    }
-    i
-}
-
 // Whether the words from a place up to another are 0.
 pub fn zeros(rows: &[u32], from: usize, to: usize) -> bool
     requires { (from ≤ to) × (to ≤ length rows.now) }
     ensures { Tells result (Zeros rows.now from to) }
 {
-    let mut i = clear_to(rows, from, to);
+    let mut i = from;
     while i < to {
         if rows[i] != 0 {
             return false;
@@ -149,18 +118,6 @@ fn blank(rows: &[u32], width: u32, used: u32, from: u32, to: u32) -> bool
     true
 }
 
-// Whether the rows from one place up to another have zeros alone.
-fn bare(rows: &[u32], width: u32, from: u32, to: u32) -> bool
-    requires { (0 < width) × (width ≤ 31) × (from ≤ to) × (to ≤ 513) × (width * to ≤ length rows.now) }
-    ensures { Tells result (Blank width rows.now 0 from to) }
-{
-    zeros(
-        rows,
-        row_start(width, from) as usize,
-        row_start(width, to) as usize,
-    )
-}
-
 // Whether the rows are those of the table of n rules that they hold: the default's row is right, and every word that is not a rule's is 0.
 pub fn rows_are(rows: &[u32], n: u32, tops: &[u32], shape: Shape) -> bool
     requires { Rowed (kind_of tops.now shape) n rows.now }
@@ -173,7 +130,7 @@ pub fn rows_are(rows: &[u32], n: u32, tops: &[u32], shape: Shape) -> bool
     if !blank(rows, shape.width, used, 1, n + 1) {
         return false;
     }
-    bare(rows, shape.width, n + 1, shape.most + 1)
+    blank(rows, shape.width, 0, n + 1, shape.most + 1)
 }
 
 // The number of the rule whose row begins at a word.

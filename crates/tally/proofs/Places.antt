@@ -1,9 +1,9 @@
 -- The first place whose key passes a test, by the keys that were passed; and what the loop over the keys knows.
 -- Assumes nothing.
-use Rattle.std.proofs.Common.{◌≡◌, ℕ, zero, suc, ◌+◌, ◌<◌, ◌≤◌, Bool, true, false, cond, ltb, ◌⊎◌, List, [], ◌∷◌, length, get_or, sym, refl, ap, ◌∙◌, inl, inr, ⊎_elim, arith, ltb-false, ltb-true, le-ltb, lt-ltb, ne_eqb}
+use Rattle.std.proofs.Common.{◌≡◌, ℕ, zero, suc, ◌+◌, ◌<◌, ◌≤◌, Bool, true, false, cond, ltb, ◌⊎◌, List, [], ◌∷◌, length, get_or, sym, refl, ap, ◌∙◌, inl, inr, ⊎_elim, arith, ltb-false, ltb-true, le-ltb, lt-ltb}
 use Rattle.tally.specs.declared.Place.{Place}
 use Rattle.tally.specs.declared.Place.TheVariants.{Held, New, Full}
-use Rattle.tally.specs.Tally.{unused, keyed, NoneIn, first_place, place_of}
+use Rattle.tally.specs.Tally.{unused, keyed, first_place, place_of}
 
 -- none of the first n keys passes the test
 abbrev pub None : (ℕ → Bool) → List ℕ → ℕ → Type 0
@@ -50,47 +50,49 @@ module _ (test : ℕ → Bool) where
       pick true q = h j (ltb-true j n q)
       pick false q = let a : j ≡ n = omega (arith, ltb-false j n q) in rw a e
 
-  -- the same from a place on
-  pub none_on : (keys : List ℕ) (from n : ℕ) → NoneIn test keys from n → test (get_or keys n 0) ≡ false → NoneIn test keys from (n + 1)
-  none_on keys from n h e j b l = pick (ltb j n) refl
+module _ (keys : List ℕ) where
+  -- what the loop knows of the first unused place after i keys: there was none, or it is this one
+  abbrev pub Free : ℕ → ℕ → Type 0
+  Free i free = ((free ≡ length keys) × None unused keys i) ⊎ ((free < length keys) × None unused keys free × (unused (get_or keys free 0) ≡ true))
+
+  pub free_first : Free 0 (length keys)
+  free_first = inl (refl, λ j l. absurd (omega arith))
+
+  pub free_next : (i free : ℕ) → i < length keys → Free i free → Free (i + 1) (cond (unused (get_or keys i 0)) (cond (ltb free (length keys)) free i) free)
+  free_next i free h f = by_key (unused (get_or keys i 0)) refl
     where
-      pick : (b : Bool) → ltb j n ≡ b → test (get_or keys j 0) ≡ false
-      pick true q = h j b (ltb-true j n q)
-      pick false q = let a : j ≡ n = omega (arith, ltb-false j n q) in rw a e
+      by_key : (b : Bool) → unused (get_or keys i 0) ≡ b → Free (i + 1) (cond b (cond (ltb free (length keys)) free i) free)
+      by_key false e = ⊎_elim (λ g. inl (g.0, none_more unused keys i g.1 e)) inr f
+      by_key true e =
+          ⊎_elim
+          (λ g. rw (le-ltb free (length keys) (omega arith)) (inr (h, g.1, e)))
+          (λ g. rw (lt-ltb free (length keys) g.0) (inr g))
+          f
 
-  -- and eight keys more
-  pub none_eight : (keys : List ℕ) (n : ℕ) → NoneIn test keys 0 n → NoneIn test keys n (n + 8) → NoneIn test keys 0 (n + 8)
-  none_eight keys n h e j b l = pick (ltb j n) refl
-    where
-      pick : (b : Bool) → ltb j n ≡ b → test (get_or keys j 0) ≡ false
-      pick true q = h j b (ltb-true j n q)
-      pick false q = e j (ltb-false j n q) l
-
-  -- the first place, where the search comes to it or to the end
-  pub found_first : (keys : List ℕ) (i : ℕ) → i < length keys → NoneIn test keys 0 i → test (get_or keys i 0) ≡ true → i ≡ first_place test keys
-  found_first keys i h n e = sym (first_at keys i h (λ j l. n j (omega arith) l) e)
-
-  pub found_none : (keys : List ℕ) (i : ℕ) → i ≤ length keys → length keys ≤ i → NoneIn test keys 0 i → i ≡ first_place test keys
-  found_none keys i h g n = let z : i ≡ length keys = omega arith in z ∙ sym (first_none keys (λ j l. n j (omega arith) (omega arith)))
-
--- a key that is another number is not the number's
-pub not_keyed : (number key : ℕ) → (key ≡ number → ⊥) → keyed number key ≡ false
-not_keyed number key h = simp (ne_eqb key number h)
-
-module _ (number : ℕ) (keys : List ℕ) where
-  -- where a number counts, by the two first places
-  pub held_at : (i : ℕ) → i ≡ first_place (keyed number) keys → i < length keys → Held i ≡ place_of number keys
-  unfolding place_of
-  held_at i e h = rw (← e, lt-ltb i (length keys) h)
-
-  module _ (i : ℕ) (e : i ≡ first_place (keyed number) keys) (all : length keys ≤ i) (free : ℕ) (f : free ≡ first_place unused keys) where
-    pub new_at : free < length keys → New free ≡ place_of number keys
+  module _ (number : ℕ) where
+    pub held_at : (i : ℕ) → i < length keys → None (keyed number) keys i → keyed number (get_or keys i 0) ≡ true → place_of number keys ≡ Held i
     unfolding place_of
-    new_at h = rw (← e, le-ltb i (length keys) all, ← f, lt-ltb free (length keys) h)
+    held_at i h n e = rw (first_at (keyed number) keys i h n e, lt-ltb i (length keys) h)
 
-    pub full_at : length keys ≤ free → Full ≡ place_of number keys
-    unfolding place_of
-    full_at h = rw (← e, le-ltb i (length keys) all, ← f, le-ltb free (length keys) h)
+    -- all keys were passed
+    module _ (i free : ℕ) (all : length keys ≤ i) (none : None (keyed number) keys i) (f : Free i free) where
+      none_keyed : ltb (first_place (keyed number) keys) (length keys) ≡ false
+      none_keyed = le-ltb (first_place (keyed number) keys) (length keys) (omega (arith, first_none (keyed number) keys (λ j l. none j (omega arith))))
+
+      pub new_at : free < length keys → place_of number keys ≡ New free
+      unfolding place_of
+      new_at h =
+          ⊎_elim (λ g. absurd (omega arith))
+          (λ g. rw none_keyed (rw (first_at unused keys free h g.1 g.2, lt-ltb free (length keys) h)))
+          f
+
+      pub full_at : length keys ≤ free → place_of number keys ≡ Full
+      unfolding place_of
+      full_at h =
+          ⊎_elim
+          (λ g. rw none_keyed (rw (le-ltb (first_place unused keys) (length keys) (omega (arith, first_none unused keys (λ j l. g.1 j (omega arith)))))))
+          (λ g. absurd (omega arith))
+          f
 
 -- WHAT A PLACE TELLS of the keys
 pub data Tells (number : ℕ) (keys : List ℕ) : Place → Type 0 where

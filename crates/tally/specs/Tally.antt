@@ -1,7 +1,7 @@
 -- Tallies for each rule, request P1: what a lookup that counts answers, and what it leaves of the tally record that it was lent.
 -- A record has 513 places, by P9, each with a key, a count of packets and a count of bytes. Its words may be any numbers.
 -- Assumes nothing: these are definitions.
-use Rattle.std.specs.Prelude.{◌≡◌, ℕ, suc, ◌+◌, ◌-◌, ◌%◌, ◌^◌, ◌<◌, ◌≤◌, Bool, false, cond, ◌&&◌, List, [], ◌∷◌, length, replicate, ◌==◌, nat_le, nat_lt, slice_index, slice_set}
+use Rattle.std.specs.Prelude.{ℕ, suc, ◌+◌, ◌-◌, ◌%◌, ◌^◌, Bool, cond, ◌&&◌, List, [], ◌∷◌, length, replicate, ◌==◌, nat_le, nat_lt, slice_index, slice_set}
 use Rattle.header.specs.Header.{total_length}
 use Rattle.lookup.specs.declared.Found.{Found}
 use Rattle.lookup.specs.Walk.{refused, lookup_packet}
@@ -15,10 +15,6 @@ unused key = nat_lt 65535 key
 
 abbrev pub keyed : ℕ → ℕ → Bool
 keyed number key = key == number && nat_le key 65535
-
--- none of the keys from a place up to another passes the test
-abbrev pub NoneIn : (ℕ → Bool) → List ℕ → ℕ → ℕ → Type 0
-NoneIn test keys from to = (j : ℕ) → from ≤ j → j < to → test (slice_index keys j) ≡ false
 
 -- the place of the first key that passes the test; where none does, one past the last place
 unfoldable pub first_place : (ℕ → Bool) → List ℕ → ℕ

@@ -1,6 +1,6 @@
 // Tallies for each rule: how many packets it decided, and how many bytes they had. The lookup here is the lookup by a packet, and adds to the tally of the rule that decides.
-ghost use Rattle.std.specs.Prelude.{◌≡◌, ◌+◌, ◌<◌, ◌≤◌, false, length};
-ghost use Rattle.tally.specs.Tally.{unused, keyed, NoneIn, first_place, place_of, added_at, has_place, tallies_with, found_tally, found_tallies, tally_answer, tallies_left, tallies, cleared, difference as difference_of};
+ghost use Rattle.std.specs.Prelude.{◌≡◌, ◌<◌, ◌≤◌, length, if◌then◌else◌, nat_lt};
+ghost use Rattle.tally.specs.Tally.{unused, keyed, place_of, added_at, has_place, tallies_with, found_tally, found_tallies, tally_answer, tallies_left, tallies, cleared, difference as difference_of};
 
 use header::Header;
 use lookup::Found;
@@ -10,7 +10,7 @@ pub const PLACES: usize = 513;
 
 // A tally record. Each place is unused where its key is above 65,535, whatever it is; else it is the tally of the rule with that number. The words may hold any numbers.
 #[repr(C)]
-#[derive(Drop)]
+#[derive(Clone, Copy)]
 pub struct Tallies {
     pub key: [u32; PLACES],
     pub packets: [u32; PLACES],
@@ -18,7 +18,7 @@ pub struct Tallies {
 }
 
 // Where a rule's number counts: at the first place that holds it, at the first unused place, which it takes, or nowhere.
-#[derive(Drop)]
+#[derive(Clone, Copy)]
 pub enum Place {
     Held(usize),
     New(usize),
@@ -35,78 +35,36 @@ fn holds(key: u32, number: u32) -> bool
     key <= 65535
 }
 
-// Whether one of eight keys, from a place on, is the number. No test waits for another, so that a processor makes several at once.
-fn meets(key: &[u32], from: usize, number: u32) -> bool
-    requires { from + 8 ≤ length key.now }
-    ensures { result ≡ false → NoneIn (keyed number) key.now from (from + 8) }
+// The first unused place, where the one so far is given, or n for none, and the next place has this key.
+fn unused_yet(free: usize, n: usize, place: usize, key: u32) -> usize
+    ensures { result ≡ (if unused key then (if nat_lt free n then free else place) else free) }
 {
-    let mut met = false;
-    let mut j: usize = 0;
-    while j < 8 {
-        if key[from + j] == number {
-            met = true;
-        }
-        j += 1;
+    if key <= 65535 {
+        return free;
     }
-    met
+    if free < n { free } else { place }
 }
 
-// How many keys, by eights, none of which is the number.
-fn passed(key: &[u32], number: u32) -> usize
-    ensures { (result ≤ length key.now) × NoneIn (keyed number) key.now 0 result }
-{
-    let n = key.len();
-    let mut i: usize = 0;
-    while 8 <= n - i {
-        if meets(key, i, number) {
-            return i;
-        }
-        i += 8;
-    }
-    i
-}
-
-// The first place that holds the number, or one past the last.
-fn held_at(key: &[u32], number: u32) -> usize
-    ensures { result ≡ first_place (keyed number) key.now }
-{
-    let mut i = passed(key, number);
-    while i < key.len() {
-        if holds(key[i], number) {
-            return i;
-        }
-        i += 1;
-    }
-    i
-}
-
-// The first unused place, or one past the last.
-fn unused_at(key: &[u32]) -> usize
-    ensures { result ≡ first_place unused key.now }
-{
-    let mut i: usize = 0;
-    while i < key.len() {
-        if 65535 < key[i] {
-            return i;
-        }
-        i += 1;
-    }
-    i
-}
-
-// Where a number counts. Only where no place holds it the keys are gone through for an unused one.
+// Where a number counts. The keys are gone through once.
 fn place_of(key: &[u32], number: u32) -> Place
     ensures { result ≡ place_of number key.now }
 {
-    let held = held_at(key, number);
-    if held < key.len() {
-        return Place::Held(held);
+    let n = key.len();
+    let mut free = n;
+    let mut i: usize = 0;
+    while i < n {
+        let k = key[i];
+        if holds(k, number) {
+            return Place::Held(i);
+        }
+        free = unused_yet(free, n, i, k);
+        i += 1;
     }
-    let free = unused_at(key);
-    if free < key.len() {
-        return Place::New(free);
+    if free < n {
+        Place::New(free)
+    } else {
+        Place::Full
     }
-    Place::Full
 }
 
 // Adds to one of the counts, which starts again at zero after 4,294,967,295.

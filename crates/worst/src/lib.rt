@@ -10,7 +10,7 @@ use table::Shape;
 
 // What is said of a table: the answer, the most reads, and the least record that takes them; zeros with a refusal.
 #[repr(C)]
-#[derive(Drop)]
+#[derive(Clone, Copy)]
 pub struct Most {
     pub answer: u32,
     pub reads: u32,
@@ -18,7 +18,7 @@ pub struct Most {
 }
 
 // The same without the record.
-#[derive(Drop)]
+#[derive(Clone, Copy)]
 pub struct Count {
     pub answer: u32,
     pub reads: u32,

@@ -5,7 +5,7 @@ ghost use Rattle.writing.specs.Writing.{little_bytes, begin_says, begin_leaves, 
 
 // What a call says: its answer, and how many bytes it wrote at the start of the lent ones; none with a refusal.
 #[repr(C)]
-#[derive(Drop)]
+#[derive(Clone, Copy)]
 pub struct Written {
     pub answer: u32,
     pub bytes: u32,

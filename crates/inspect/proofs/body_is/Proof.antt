@@ -1,6 +1,5 @@
 -- `inspect::body_is` meets its contract: the rows, then the blocks, and then the cells.
 -- Assumes nothing.
-use mathlib.Core.Path.{refl}
 use mathlib.Core.List.{List}
 use Prim.Native.Nat.{ℕ, suc}
 use native.Mathlib.Omega.{arith}
@@ -8,7 +7,7 @@ use lib.ListN.{length-take, length-drop}
 use Rattle.model.specs.Table.{Kind, Shaped}
 use Rattle.table.specs.Rows.{kind_of}
 use Rattle.layout.proofs.Parts.{scratch_few}
-use Rattle.inspect.proofs.Laws.{wrong_table, wrong_blocks, long_blocks, right_body}
+use Rattle.inspect.proofs.Laws.{wrong_table, wrong_blocks, right_body}
 use Rattle.inspect.proofs.body_is.Statement.{statement}
 use Rattle.inspect.proofs.body_is.Tie as tie
 
@@ -60,7 +59,6 @@ body-is-spec =
     (λ c.
     let s = c.before.before.before.before.before.before.before.before.before.before.before.before.before.before.before.before.before.before.before in
     wrong_blocks (kind s) (words s) s.args.n _ c.before.before.before.before.before.before.before.before.before.before.before.before.before.rows-end.ensures.0 _ _ c.before.before.before.before.before.before.before.before.before.before.before.table-is.ensures c.before.before.before.before.before.before.before.before.before.before.if1.false c.before.before.before.before.before.blocks-are.ensures c.if2.true)
-    (λ c. omega (arith, c.before.before.before.before.before.before.before.before.before.before.before.before.before.rows-end.ensures, c.before.before.before.before.before.before.before.before.before.before.before.before.before.before.before.before.before.before.before.requires))
     (λ c. omega (arith, c.before.before.before.before.before.before.before.before.before.before.before.before.before.rows-end.ensures))
     (λ c. omega (arith, c.before.before.before.before.before.before.before.before.before.before.before.before.before.rows-end.ensures))
     (λ c. omega (arith, c.before.before.before.before.before.before.before.before.before.before.before.before.before.rows-end.ensures))
@@ -71,7 +69,7 @@ body-is-spec =
     let h = shaped s in
     let b = c.before.before.before.before.before.before.before.before.blocks-are.auto in
     let g = scratch_few (suc s.args.n) s.requires.1 (omega (arith, s.requires.2)) in
-    (omega (arith, s.requires.2, h.few), omega (arith, h.ends, h.narrow), h.narrow, record { places = omega (arith, g.places, b.1.1.1.1.1.0); room = omega (arith, g.room, b.1.1.1.1.1.1.0) }, long_blocks (kind s) (words s) s.args.n _ c.before.before.before.before.before.before.before.before.before.before.before.before.before.before.before.before.rows-end.ensures.0 _ _ c.before.before.before.before.before.before.before.before.blocks-are.ensures c.before.before.before.if2.false refl))
+    (omega (arith, s.requires.2, h.few), omega (arith, h.ends, h.narrow), h.narrow, record { places = omega (arith, g.places, b.1.1.1.1.1.0); room = omega (arith, g.room, b.1.1.1.1.1.1.0) }))
     (λ c. omega (arith, c.before.before.before.sets2.given, c.before.before.before.before.before.before.before.before.before.before.before.before.sets.given))
     (λ c. omega (arith, c.before.ends2.given, c.before.before.before.before.before.before.before.before.before.before.ends.given))
     -- returns-3

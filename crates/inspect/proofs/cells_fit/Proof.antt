@@ -3,7 +3,6 @@
 use borrow.Author.Rules.{rules}
 use mathlib.Core.List.{append-nil}
 use Rattle.layout.proofs.Parts.{counted}
-use Rattle.inspect.proofs.Laws.{few_cells}
 use Rattle.inspect.proofs.cells_fit.Statement.{statement}
 use Rattle.inspect.proofs.cells_fit.Tie as tie
 
@@ -11,8 +10,6 @@ pub cells-fit-spec : {M : Type 1} → statement M
 cells-fit-spec =
     tie.close
     (tie.spec
-    -- the blocks are few
-    (λ c. let s = c.before.before.before.before in few_cells _ s.args.size s.requires.4 (search rules))
     (λ c κs. search rules)
     (λ c. search rules)
     (λ c. search rules)

@@ -38,7 +38,7 @@ returns-3 c =
     let s = i.before.before.before.before in
     let a = s.args in
     rows_rest (kind_of a.tops.now a.shape) a.n a.rows.now s.requires (said_yes i.before.first_is.result i.before.first_is.ensures i.if1.false)
-    (said_yes r.blank.result r.blank.ensures f.if2.false) c.bare.result c.bare.ensures
+    (said_yes r.blank.result r.blank.ensures f.if2.false) c.blank2.result c.blank2.ensures
 
 pub rows-are-spec : {M : Type 1} → statement M
 rows-are-spec =
@@ -54,5 +54,5 @@ rows-are-spec =
     returns-2
     (λ c. search rules)
     (λ c. search rules)
-    (λ c κs. let s = c.before.before.before.before.before.before.before in let h = s.requires.shaped in (omega (arith, h.ends), h.narrow, omega (arith, s.requires.fit), omega (arith, h.few), omega (arith, s.requires.whole)))
+    (λ c κs. let s = c.before.before.before.before.before.before.before in let h = s.requires.shaped in (h.narrow, omega arith, omega (arith, s.requires.fit), omega (arith, h.few), omega (arith, s.requires.whole)))
     returns-3)

@@ -23,7 +23,7 @@ returns c =
 loop-again : tie.Need-loop-preserved invariant-loop decreases-loop
 loop-again c =
     let l = c.before.before.before.loop in
-    let a = c.before.before.before.before.before.before.args in
+    let a = c.before.before.before.before.args in
     (search rules, search rules, zeros_more a.rows.now a.from l.i l.invariant.2 c.if1.false)
 
 returns-2 : tie.Need-returns-2 invariant-loop decreases-loop
@@ -35,8 +35,7 @@ zeros-spec =
     (tie.spec
     invariant-loop
     decreases-loop
-    (λ c κs. search rules)
-    (λ c. c.clear-to.ensures)
+    (λ c. (search rules, search rules, λ j a b. absurd (omega arith)))
     (λ c. search rules)
     (λ c. search rules)
     returns
