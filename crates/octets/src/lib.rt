@@ -1,4 +1,6 @@
 // Numbers of 16 and 32 bits in bytes, the most significant byte first or last; and bytes copied.
+#![tactic(auto)]
+
 ghost use Rattle.std.specs.Prelude.{◌≡◌, ◌+◌, ◌<◌, ◌≤◌, length};
 ghost use Rattle.std.proofs.Math.Seq.{paste};
 ghost use Rattle.octets.specs.declared.Order.TheVariants.{Big, Little};

@@ -1,0 +1,15 @@
+-- `header::has_ports` meets its contract: the code's tests are the definition's. Assumes nothing.
+use mathlib.Core.Path.{sym}
+use borrow.Author.Rules.{rules}
+use borrow.Author.Tests.{eq-eqb, ne_eqb}
+use Rattle.header.specs.Header.{has_ports}
+use Rattle.header.proofs.has_ports.Goals as goal
+
+pub returns-then-half_at-ne0 : goal.returns-then-half_at-ne0
+returns-then-half_at-ne0 c = simp (sym c.half_at.ensures.0, ne_eqb _ _ c.if-half_at-ne0.true)
+
+pub returns-then-s-eq6 : goal.returns-then-s-eq6
+returns-then-s-eq6 c = simp (sym c.half_at.ensures.0, eq-eqb _ _ c.if-half_at-ne0.false, eq-eqb _ _ c.if-s-eq6.true)
+
+pub returns : goal.returns
+returns c = simp (sym c.half_at.ensures.0, eq-eqb _ _ c.if-half_at-ne0.false, ne_eqb _ _ c.if-s-eq6.false)
