@@ -12,9 +12,6 @@ use Rattle.prefix.proofs.range_of.Goals as goal
 masked : (address length last : ℕ) → last ≡ block_size length - 1 → bit_and address last ≡ address % block_size length
 masked address length last e = rw e (and_mask address (32 - length))
 
-even : (c : tie.Else2) → c.before.before.before.args.address % block_size c.before.before.before.args.length ≡ 0
-even c = sym (masked _ _ _ c.before.less_one.ensures) ∙ c.if2.false
-
 pub refusal-requires : goal.refusal-requires
 refusal-requires c = tt
 
@@ -28,7 +25,7 @@ pub returns-then-address-last-ne0 : goal.returns-then-address-last-ne0
 returns-then-address-last-ne0 c = c.refusal-then-address-last-ne0.ensures ∙ when_apart _ _ (λ e. c.if-address-last-ne0.true (masked _ _ _ c.less_one-last.ensures ∙ e))
 
 pub overflow_add-result : goal.overflow_add-result
-overflow_add-result c = omega (arith, fits _ _ c.ranges.address.fits (even c))
+overflow_add-result c = omega (arith, fits _ _ c.ranges.address.fits ((let h_even : c.args.address % block_size c.args.length ≡ 0 = sym (masked _ _ _ c.less_one-last.ensures) ∙ c.if-address-last-ne0.false in h_even)))
 
 pub returns : goal.returns
-returns c = rw c.less_one-last.ensures (when_whole _ _ c.if-length-gt32.false (even c))
+returns c = rw c.less_one-last.ensures (when_whole _ _ c.if-length-gt32.false ((let h_even : c.args.address % block_size c.args.length ≡ 0 = sym (masked _ _ _ c.less_one-last.ensures) ∙ c.if-address-last-ne0.false in h_even)))
