@@ -1,5 +1,7 @@
 -- `table::rows_are` meets its contract: the rows are right where their three parts are.
 -- Assumes nothing.
+use mathlib.Core.Bool.{not}
+use mathlib.Core.Path.{ap}
 use Prim.Native.Nat.{◌+◌}
 use borrow.Author.Rules.{rules}
 use native.Mathlib.Omega.{arith}
