@@ -1,0 +1,11 @@
+-- `blocks::blocks_for` meets its contract. The invariant: the levels passed are counted. Assumes nothing.
+use native.Mathlib.Omega.{arith}
+use borrow.Author.Rules.{rules}
+use Rattle.blocks.proofs.Writing.{Counts, counts_start, counts_on, counts_done}
+use Rattle.blocks.proofs.blocks_for.Given as goal
+
+abbrev pub invariant-loop-left : goal.invariant-loop-left
+invariant-loop-left l = Counts l.m l.left l.total
+
+abbrev pub decreases-loop-left : goal.decreases-loop-left
+decreases-loop-left l = l.left

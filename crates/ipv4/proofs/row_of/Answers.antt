@@ -1,0 +1,10 @@
+-- `ipv4::row_of` meets its contract: word for word.
+-- Assumes nothing.
+use borrow.Author.Rules.{rules}
+use mathlib.Core.Path.{refl}
+use Rattle.model.specs.Lists.{up_to}
+use Rattle.ipv4.proofs.row_of.Goals as goal
+
+pub returns : goal.returns
+unfolding up_to
+returns c = (refl, refl)
