@@ -1,0 +1,16 @@
+-- `lay::blank` meets its contract. The invariant: the places passed are written. Assumes nothing.
+use mathlib.Core.Path.{◌≡◌, refl}
+use Prim.Native.Nat.{◌-◌, ◌*◌, ◌+◌}
+use native.Mathlib.Omega.{arith}
+use borrow.Author.Rules.{rules}
+use lib.ListN.{length-set}
+use Rattle.blocks.specs.Blocks.{top_end}
+use Rattle.blocks.specs.Written.{end_place, link_place}
+use Rattle.blocks.proofs.Writing.{Filled, filled_start, filled_on, filled_done}
+use Rattle.lay.proofs.blank.Given as goal
+
+abbrev pub invariant-loop-i : goal.invariant-loop-i
+invariant-loop-i l = Filled l.initial.words l.words l.b 1 l.i (λ j. top_end) (λ j. 0)
+
+abbrev pub decreases-loop-i : goal.decreases-loop-i
+decreases-loop-i l = 8 - l.i
