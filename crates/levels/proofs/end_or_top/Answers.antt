@@ -1,0 +1,11 @@
+-- `levels::end_or_top` meets its contract.
+-- Assumes nothing.
+use borrow.Author.Rules.{rules}
+use borrow.Author.Tests.{lt-ltb, le-ltb}
+use Rattle.levels.proofs.end_or_top.Goals as goal
+
+pub returns-then-j-m : goal.returns-then-j-m
+returns-then-j-m c = simp (lt-ltb _ _ c.if-j-m.true)
+
+pub returns : goal.returns
+returns c = simp (le-ltb _ _ c.if-j-m.false)

@@ -1,0 +1,14 @@
+-- `levels::ends_are` meets its contract. The invariant: the places passed are right.
+-- Assumes nothing.
+use Prim.Native.Nat.{◌-◌, ◌*◌}
+use native.Mathlib.Omega.{arith}
+use borrow.Author.Rules.{rules}
+use Rattle.model.proofs.Tests.{was_no, was_yes}
+use Rattle.levels.proofs.Levels.{EndsTo, ends_start, ends_on, ends_not, ends_done}
+use Rattle.levels.proofs.ends_are.Given as goal
+
+abbrev pub invariant-loop-j : goal.invariant-loop-j
+invariant-loop-j l = EndsTo l.words l.b l.n l.ends l.m l.j
+
+abbrev pub decreases-loop-j : goal.decreases-loop-j
+decreases-loop-j l = 8 * l.n - l.j

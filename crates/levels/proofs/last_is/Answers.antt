@@ -1,0 +1,49 @@
+-- `levels::last_is` meets its contract. The invariant is `Looks`: the links of the first `i` ends stand, and nothing is below them.
+-- Assumes nothing.
+use mathlib.Core.Bool.{not}
+use mathlib.Core.Path.{ap}
+use Prim.Native.Nat.{◌+◌, ◌-◌}
+use mathlib.Core.List.{append-nil}
+use native.Mathlib.Omega.{arith}
+use borrow.Author.Rules.{rules}
+use Rattle.blocks.specs.Blocks.{parts}
+use Rattle.levels.proofs.Chain.{Looks, looks_start, looks_in, last_no, last_on, looks_above, looks_done, looks_not}
+use Rattle.levels.proofs.last_is.Goals as goal
+
+-- loop-holds
+pub loop-i-init : goal.loop-i-init
+loop-i-init c = let p = c.requires in looks_start p.0 (λ z. absurd (omega arith)) p.1
+
+pub end_at-e-requires : goal.end_at-e-requires
+end_at-e-requires c = looks_in c.loop-i.invariant c.loop-i-test.true
+
+pub down_is-requires : goal.down_is-requires
+down_is-requires c = looks_in c.loop-i.invariant c.loop-i-test.true
+
+-- returns: a link is wrong
+pub returns-then-not-down_is : goal.returns-then-not-down_is
+returns-then-not-down_is c = last_no c.loop-i.invariant c.loop-i-test.true c.end_at-e.ensures (rw append-nil at c.least-named.ensures) c.down_is.ensures (ap not c.if-not-down_is.true)
+
+-- loop-again
+pub loop-i-preserved : goal.loop-i-preserved
+loop-i-preserved c = last_on c.loop-i.invariant c.loop-i-test.true c.end_at-e.ensures (rw append-nil at c.least-named.ensures) c.down_is.ensures (ap not c.if-not-down_is.false)
+
+pub upper_is-requires : goal.upper_is-requires
+upper_is-requires c = looks_above c.loop-i.invariant
+
+-- returns-2: a level above is wrong
+pub returns-then-not-upper_is : goal.returns-then-not-upper_is
+returns-then-not-upper_is c = looks_not c.loop-i.invariant c.loop-i-test.false c.upper_is.result (ap not c.if-not-upper_is.true) c.upper_is.ensures
+
+pub overflow_add-result : goal.overflow_add-result
+overflow_add-result c = omega (arith, looks_above c.loop-i.invariant)
+
+pub overflow_add-result-2 : goal.overflow_add-result-2
+overflow_add-result-2 c = omega (arith, looks_above c.loop-i.invariant)
+
+pub overflow_cast-result : goal.overflow_cast-result
+overflow_cast-result c = omega (arith, looks_above c.loop-i.invariant)
+
+-- returns-3
+pub returns : goal.returns
+returns c = looks_done c.loop-i.invariant c.loop-i-test.false c.upper_is.result (ap not c.if-not-upper_is.false) c.upper_is.ensures
