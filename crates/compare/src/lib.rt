@@ -1,4 +1,6 @@
 // Whether words are exactly the text of a tree and then the free chain. The tree is not made: its chains are gone through in the order in which they would be built, and each cell is compared with what would be written there.
+#![tactic(auto)]
+
 ghost use Rattle.std.specs.Prelude.{◌≡◌, ◌+◌, ◌*◌, ◌≤◌, ◌<◌, length, take};
 ghost use Rattle.rows.specs.Rows.{tree_at, Scratch};
 ghost use Rattle.cells.specs.Text.{part};
