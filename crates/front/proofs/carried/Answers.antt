@@ -1,0 +1,20 @@
+-- `front::carried` meets its contract: the head, and then the rows that are lent, with zeros behind them.
+-- Assumes nothing.
+use borrow.Author.Rules.{rules}
+use native.Mathlib.Omega.{arith}
+use mathlib.Core.Path.{sym}
+use lib.Seq.{length-take-le}
+use Rattle.table.specs.Rows.{kind_of}
+use Rattle.front.proofs.Front.{carried_front}
+use Rattle.front.proofs.carried.Goals as goal
+
+pub slice_bounds-write_head-end-2 : goal.slice_bounds-write_head-end-2
+slice_bounds-write_head-end-2 c = sym (length-take-le c.args.shape.head c.args.front.now (omega (arith, c.requires.1)))
+
+pub write_head-requires : goal.write_head-requires
+write_head-requires c = omega (arith, length-take-le c.args.shape.head c.args.front.now (omega (arith, c.requires.1)), c.requires.0.three)
+
+pub returns : goal.returns
+returns c =
+    let a = c.args in
+    carried_front (kind_of a.tops.now a.shape) c.requires.0 a.c a.n a.front.now _ a.rows.now _ _ c.requires.1 c.write_head.ensures c.copy.auto.out c.copy.ensures

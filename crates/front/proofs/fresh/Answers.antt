@@ -1,0 +1,21 @@
+-- `front::fresh` meets its contract: the head, and then the rows of the default alone.
+-- Assumes nothing.
+use borrow.Author.Rules.{rules}
+use native.Mathlib.Omega.{arith}
+use mathlib.Core.Path.{sym}
+use mathlib.Core.List.{[]}
+use lib.Seq.{length-take-le}
+use Rattle.table.specs.Rows.{kind_of}
+use Rattle.front.proofs.Front.{fresh_front}
+use Rattle.front.proofs.fresh.Goals as goal
+
+pub slice_bounds-write_head-end-2 : goal.slice_bounds-write_head-end-2
+slice_bounds-write_head-end-2 c = sym (length-take-le c.args.shape.head c.args.front.now (omega (arith, c.requires.1)))
+
+pub write_head-requires : goal.write_head-requires
+write_head-requires c = omega (arith, length-take-le c.args.shape.head c.args.front.now (omega (arith, c.requires.1)), c.requires.0.three)
+
+pub returns : goal.returns
+returns c =
+    let a = c.args in
+    fresh_front (kind_of a.tops.now a.shape) c.requires.0 a.c (record { action = a.action; rules = [] }) a.front.now _ _ c.requires.1 c.write_head.ensures c.fresh.ensures
