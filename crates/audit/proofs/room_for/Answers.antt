@@ -1,0 +1,25 @@
+-- `audit::room_for` meets its contract: its tests in their order.
+-- Assumes nothing.
+use mathlib.Core.Path.{◌≡◌, ap}
+use Prim.Native.Nat.{◌+◌, ◌*◌}
+use lib.Dec.{leb}
+use lib.ListN.{length}
+use Rattle.table.specs.Rows.{kind_of}
+use Rattle.layout.specs.Store.{size}
+use native.Mathlib.Omega.{arith}
+use borrow.Author.Rules.{rules}
+use borrow.Author.Tests.{lt-leb, le-leb}
+use Rattle.audit.proofs.room_for.Goals as goal
+
+pub returns-then-c-tops : goal.returns-then-c-tops
+returns-then-c-tops c = simp (lt-leb _ _ c.if-c-tops.true)
+
+pub returns-then-c-gt65536 : goal.returns-then-c-gt65536
+returns-then-c-gt65536 c = simp (le-leb _ _ c.if-c-tops.false, lt-leb _ _ c.if-c-gt65536.true)
+
+pub returns : goal.returns
+returns c =
+    let a = c.args in
+    let k = kind_of a.tops.now a.shape in
+    let z : c.rows_end.result + (2 + 8 * a.c) ≡ size k a.c = omega (arith, c.rows_end.ensures.0) in
+    simp (le-leb _ _ c.if-c-tops.false, le-leb _ _ c.if-c-gt65536.false) (ap (λ m. leb m (length a.words.now)) z)
