@@ -1,4 +1,6 @@
 // Whether words are exactly the blocks of the tree of some rules. The tree is not made: its chains are gone through in the order in which they are laid, and each word is compared with what would be written there.
+#![tactic(auto)]
+
 ghost use Rattle.std.specs.Prelude.{◌≡◌, ◌+◌, ◌*◌, ◌≤◌, ◌<◌, length, take};
 ghost use Rattle.model.specs.Lists.{same};
 ghost use Rattle.rows.specs.Rows.{tree_at, Scratch};
