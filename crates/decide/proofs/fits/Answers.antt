@@ -9,33 +9,16 @@ use lib.ListN.{take, drop}
 use lib.Seq.{take-take}
 use Rattle.table.specs.Rows.{places}
 use Rattle.layout.proofs.Parts.{counted}
-use Rattle.decide.proofs.fits.Statement.{statement}
-use Rattle.decide.proofs.fits.Tie as tie
+use Rattle.decide.proofs.fits.Goals as goal
 
--- a place put in among the first n + 1
 put_in : (n p x w : ℕ) (a b : List ℕ) → take (n + 1) a ≡ places w n → take (n + 1 + 1) b ≡ take p a ++ (x ∷ drop p (take (n + 1) a)) → p ≤ n → take (n + 2) b ≡ take p (places w n) ++ (x ∷ drop p (places w n))
 put_in n p x w a b e f h =
     let z : n + 1 + 1 ≡ n + 2 = omega arith in
     (rw z at f) ∙ ap₂ (λ ys zs. ys ++ (x ∷ drop p zs)) (sym (take-take p (n + 1) a (omega arith)) ∙ ap (take p) e) e
 
-pub fits-spec : {M : Type 1} → statement M
-fits-spec =
-    tie.close
-    (tie.spec
-    (λ c κs. search rules)
-    (λ c. search rules)
-    (λ c. search rules)
-    (λ c κs. search rules)
-    (λ c. search rules)
-    (λ c κs. search rules)
-    (λ c. search rules)
-    (λ c. search rules)
-    -- returns
-    (λ c.
-    let n = c.before.before.before.before in
-    let m = n.before.before.before.before.before in
-    let l = m.before.before.before.before in
-    let s = l.before.before.before.before.before.before in
-    let a = s.args in
-    let q = put_in a.n a.p _ a.width _ _ l.places.ensures m.put_place.ensures s.requires.1 in
-    counted _ _ a.c (rw q at n.count_chain.ensures)))
+-- returns
+pub returns : goal.returns
+returns c =
+    let a = c.args in
+    let q = put_in a.n a.p _ a.width _ _ c.places.ensures c.put_place.ensures c.requires.1 in
+    counted _ _ a.c (rw q at c.count_chain.ensures)
