@@ -1,0 +1,21 @@
+-- `series::first_refusal` meets its contract. The invariant: the edits before are accepted, the set names the table that they leave, and what the others answer in it is what the whole list answers.
+-- Assumes nothing.
+use borrow.Author.Rules.{rules}
+use mathlib.Core.Path.{◌≡◌, refl}
+use mathlib.Core.List.{◌++◌}
+use Prim.Native.Nat.{◌+◌, ◌-◌, ◌*◌, ◌≤◌}
+use native.Mathlib.Omega.{arith}
+use native.Mathlib.Numerals.{add-one}
+use lib.ListN.{length}
+use Rattle.model.proofs.Grid.{row_starts}
+use Rattle.table.specs.Rows.{kind_of, table_in}
+use Rattle.series.specs.Edits.{first_refusal, edits_from}
+use Rattle.series.proofs.Decided.{Going, going_first, going_end, going_refused, going_on}
+use Rattle.series.proofs.first_refusal.Given as goal
+
+abbrev pub invariant-loop-i : goal.invariant-loop-i
+invariant-loop-i l = (l.i ≤ l.count) × (l.at ≡ (l.shape.width + 1) * l.i) × (l.m ≤ l.shape.most) × (length l.set ≡ length l.initial.set) × (length l.sets ≡ length l.initial.sets) × (length l.ends ≡ length l.initial.ends)
+    × Going (kind_of l.tops l.shape) l.c (l.rows ++ l.edits) l.m l.set l.i (edits_from (length l.tops) (l.shape.width + 1) (l.count - l.i) l.edits l.at) (first_refusal (kind_of l.tops l.shape) l.c 0 (table_in (kind_of l.tops l.shape) l.n l.rows) (edits_from (length l.tops) (l.shape.width + 1) l.count l.edits 0))
+
+abbrev pub decreases-loop-i : goal.decreases-loop-i
+decreases-loop-i l = l.count - l.i
