@@ -1,0 +1,13 @@
+-- `worst::worst` meets its contract: what is said of the kind that word 2 names, where the record began with zeros.
+-- Assumes nothing.
+use borrow.Author.Rules.{rules}
+use mathlib.Core.Path.{refl}
+use Rattle.worst.proofs.worst.Goals as goal
+
+-- reads-requires
+pub reads-count-requires : goal.reads-count-requires
+reads-count-requires c = refl
+
+-- returns
+pub returns : goal.returns
+returns c = c.reads-count.ensures
