@@ -1,4 +1,6 @@
 // The lookup of a packet, or of its values, over an image of a store's tree, whatever its words hold. It changes no word, and reads each block on its way once.
+#![tactic(auto)]
+
 ghost use Rattle.std.specs.Prelude.{◌≡◌, [], ◌∷◌, ◌+◌, ◌*◌, ◌≤◌, length, get_or};
 ghost use Rattle.model.specs.Table.{Shaped};
 ghost use Rattle.model.specs.Ipv4.{kind_in};

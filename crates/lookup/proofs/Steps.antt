@@ -16,7 +16,7 @@ use Rattle.model.specs.Table.{Kind, Shaped, row_words, packet_right}
 use Rattle.model.proofs.Tests.{by_test, and_left}
 use Rattle.header.specs.declared.Packet.{Packet}
 use Rattle.header.specs.declared.Header.{Header}
-use Rattle.header.specs.declared.Header.TheVariants.{Values}
+use Rattle.header.specs.declared.Header.TheVariants.{Values, Unreadable, Cut}
 use Rattle.header.specs.Header.{header_of, answer_of}
 use Rattle.cells.specs.Text.{cell_word}
 use Rattle.lookup.specs.declared.Walked.{Walked}
@@ -141,6 +141,12 @@ module _ (k : Kind) (w vs : List ℕ) where
   pub right_in : packet_right k vs ≡ true → lookup_values k w vs ≡ lookup_in k w vs
   unfolding lookup_values
   right_in e = rw e
+
+-- a header that gives no values has a number that is not 0
+pub none_given : (h : Header) → ((p : Packet) → h ≡ Values p → ⊥) → answer_of h ≢ 0
+none_given (Values p) n = absurd (n p refl)
+none_given Unreadable n = λ z. omega (arith, z)
+none_given Cut n = λ z. omega (arith, z)
 
 -- a packet, by what its header is
 module _ (w packet : List ℕ) where

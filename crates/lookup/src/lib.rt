@@ -1,4 +1,6 @@
 // The lookup of a packet, or of its values, in a store's words, whatever they hold. It changes no word, and reads each cell on its way once.
+#![tactic(auto)]
+
 ghost use Rattle.std.specs.Prelude.{◌≡◌, [], ◌∷◌, ◌+◌, ◌*◌, ◌≤◌, length};
 ghost use Rattle.model.specs.Table.{Shaped, front};
 ghost use Rattle.model.specs.Ipv4.{kind_in};

@@ -1,4 +1,6 @@
 // Tallies for each rule: how many packets it decided, and how many bytes they had. The lookup here is the lookup by a packet, and adds to the tally of the rule that decides.
+#![tactic(auto)]
+
 ghost use Rattle.std.specs.Prelude.{◌≡◌, ◌<◌, ◌≤◌, length, if◌then◌else◌, nat_lt};
 ghost use Rattle.tally.specs.Tally.{unused, keyed, place_of, added_at, has_place, tallies_with, found_tally, found_tallies, tally_answer, tallies_left, tallies, cleared, difference as difference_of};
 
