@@ -15,11 +15,11 @@ use Rattle.cells.proofs.Lay.{laying, lay_room, lay_built, laid, wrote_end}
 use Rattle.cells.proofs.build_one.Goals as goal
 
 pub take_cell-k-requires : goal.take_cell-k-requires
-take_cell-k-requires c = omega (arith, (let h_room : at (first_free ((let h_part_of : List ℕ = let a = c.args in mid_of a.base (length a.words.now - a.base) a.words.now in h_part_of))) 3 < length ((let h_part_of : List ℕ = let a = c.args in mid_of a.base (length a.words.now - a.base) a.words.now in h_part_of)) = let r = c.requires.1 in lay_room (laying (c.args.end ∷ []) {n = r.more} 1 refl (rw (← lent c.args.base c.args.words.now c.requires.0) at r.state)) (omega arith) in h_room))
+take_cell-k-requires c = omega (arith, (let h_room : at (first_free (let a = c.args in mid_of a.base (length a.words.now - a.base) a.words.now)) 3 < length (let a = c.args in mid_of a.base (length a.words.now - a.base) a.words.now) = let r = c.requires.1 in lay_room (laying (c.args.end ∷ []) {n = r.more} 1 refl (rw (← lent c.args.base c.args.words.now c.requires.0) at r.state)) (omega arith) in h_room))
 
 -- write-cell-requires
 pub write_cell-requires : goal.write_cell-requires
-write_cell-requires c = rw (c.take_cell-k.ensures.1, c.take_cell-k.ensures.0) (simp length-set ((let h_room : at (first_free ((let h_part_of : List ℕ = let a = c.args in mid_of a.base (length a.words.now - a.base) a.words.now in h_part_of))) 3 < length ((let h_part_of : List ℕ = let a = c.args in mid_of a.base (length a.words.now - a.base) a.words.now in h_part_of)) = let r = c.requires.1 in lay_room (laying (c.args.end ∷ []) {n = r.more} 1 refl (rw (← lent c.args.base c.args.words.now c.requires.0) at r.state)) (omega arith) in h_room)))
+write_cell-requires c = rw (c.take_cell-k.ensures.1, c.take_cell-k.ensures.0) (simp length-set ((let h_room : at (first_free (let a = c.args in mid_of a.base (length a.words.now - a.base) a.words.now)) 3 < length (let a = c.args in mid_of a.base (length a.words.now - a.base) a.words.now) = let r = c.requires.1 in lay_room (laying (c.args.end ∷ []) {n = r.more} 1 refl (rw (← lent c.args.base c.args.words.now c.requires.0) at r.state)) (omega arith) in h_room)))
 
 -- returns
 pub returns : goal.returns
@@ -27,5 +27,5 @@ returns c =
     let e = c.args.end in
     let l = c.args.words.now in (
       laid_back c.args.base l c.requires.0 {p = c.write_cell.new.words} (λ a n q x. rw (c.write_cell.ensures, c.take_cell-k.ensures.1, c.take_cell-k.ensures.0) (laid (lay_built (laying (e ∷ []) 1 refl x) (omega arith) refl) (omega arith))),
-      rw (back_drop c.args.base l c.requires.0 c.write_cell.new.words, c.write_cell.ensures, c.take_cell-k.ensures.1, c.take_cell-k.ensures.0) (wrote_end (took ((let h_part_of : List ℕ = let a = c.args in mid_of a.base (length a.words.now - a.base) a.words.now in h_part_of))) (first_free ((let h_part_of : List ℕ = let a = c.args in mid_of a.base (length a.words.now - a.base) a.words.now in h_part_of))) e c.args.c (only_down 0) (simp length-set ((let h_room : at (first_free ((let h_part_of : List ℕ = let a = c.args in mid_of a.base (length a.words.now - a.base) a.words.now in h_part_of))) 3 < length ((let h_part_of : List ℕ = let a = c.args in mid_of a.base (length a.words.now - a.base) a.words.now in h_part_of)) = let r = c.requires.1 in lay_room (laying (c.args.end ∷ []) {n = r.more} 1 refl (rw (← lent c.args.base c.args.words.now c.requires.0) at r.state)) (omega arith) in h_room)))),
+      rw (back_drop c.args.base l c.requires.0 c.write_cell.new.words, c.write_cell.ensures, c.take_cell-k.ensures.1, c.take_cell-k.ensures.0) (wrote_end (took (let a = c.args in mid_of a.base (length a.words.now - a.base) a.words.now)) (first_free (let a = c.args in mid_of a.base (length a.words.now - a.base) a.words.now)) e c.args.c (only_down 0) (simp length-set ((let h_room : at (first_free (let a = c.args in mid_of a.base (length a.words.now - a.base) a.words.now)) 3 < length (let a = c.args in mid_of a.base (length a.words.now - a.base) a.words.now) = let r = c.requires.1 in lay_room (laying (c.args.end ∷ []) {n = r.more} 1 refl (rw (← lent c.args.base c.args.words.now c.requires.0) at r.state)) (omega arith) in h_room)))),
     )

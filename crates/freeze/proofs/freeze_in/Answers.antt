@@ -13,16 +13,16 @@ use Rattle.freeze.proofs.freeze_in.Goals as goal
 
 -- returns: 9
 pub returns-then-answer-ne0 : goal.returns-then-answer-ne0
-returns-then-answer-ne0 c = freeze_9 ((let h_kind : Kind = kind_of c.args.tops.now c.args.shape in h_kind)) ((let h_words : List ℕ = c.args.words.now in h_words)) _ c.total_in-total.ensures.0 _ c.if-answer-ne0.true
+returns-then-answer-ne0 c = freeze_9 (kind_of c.args.tops.now c.args.shape) c.args.words.now _ c.total_in-total.ensures.0 _ c.if-answer-ne0.true
 
 -- returns-2: 8
 pub returns-then-image-total : goal.returns-then-image-total
-returns-then-image-total c = freeze_8 ((let h_kind : Kind = kind_of c.args.tops.now c.args.shape in h_kind)) ((let h_shaped : Shaped ((let h_kind : Kind = kind_of c.args.tops.now c.args.shape in h_kind)) = c.requires.0 in h_shaped)) ((let h_words : List ℕ = c.args.words.now in h_words)) ((let h_passed : passes ((let h_kind : Kind = kind_of c.args.tops.now c.args.shape in h_kind)) ((let h_words : List ℕ = c.args.words.now in h_words)) ≡ true = total_passes ((let h_kind : Kind = kind_of c.args.tops.now c.args.shape in h_kind)) ((let h_words : List ℕ = c.args.words.now in h_words)) _ c.total_in-total.ensures.0 c.if-answer-ne0.false in h_passed)) _ _ c.total_in-total.ensures.1 c.if-image-total.true
+returns-then-image-total c = freeze_8 (kind_of c.args.tops.now c.args.shape) c.requires.0 c.args.words.now ((let h_passed : passes (kind_of c.args.tops.now c.args.shape) c.args.words.now ≡ true = total_passes (kind_of c.args.tops.now c.args.shape) c.args.words.now _ c.total_in-total.ensures.0 c.if-answer-ne0.false in h_passed)) _ _ c.total_in-total.ensures.1 c.if-image-total.true
 
 -- write-image-requires
 pub write_image-requires : goal.write_image-requires
-write_image-requires c = ((let h_shaped : Shaped ((let h_kind : Kind = kind_of c.args.tops.now c.args.shape in h_kind)) = c.requires.0 in h_shaped), (let h_passed : passes ((let h_kind : Kind = kind_of c.args.tops.now c.args.shape in h_kind)) ((let h_words : List ℕ = c.args.words.now in h_words)) ≡ true = total_passes ((let h_kind : Kind = kind_of c.args.tops.now c.args.shape in h_kind)) ((let h_words : List ℕ = c.args.words.now in h_words)) _ c.total_in-total.ensures.0 c.if-answer-ne0.false in h_passed), freeze_fits ((let h_kind : Kind = kind_of c.args.tops.now c.args.shape in h_kind)) ((let h_shaped : Shaped ((let h_kind : Kind = kind_of c.args.tops.now c.args.shape in h_kind)) = c.requires.0 in h_shaped)) ((let h_words : List ℕ = c.args.words.now in h_words)) ((let h_passed : passes ((let h_kind : Kind = kind_of c.args.tops.now c.args.shape in h_kind)) ((let h_words : List ℕ = c.args.words.now in h_words)) ≡ true = total_passes ((let h_kind : Kind = kind_of c.args.tops.now c.args.shape in h_kind)) ((let h_words : List ℕ = c.args.words.now in h_words)) _ c.total_in-total.ensures.0 c.if-answer-ne0.false in h_passed)) c.args.image.now _ c.total_in-total.ensures.1 c.if-image-total.false)
+write_image-requires c = (c.requires.0, (let h_passed : passes (kind_of c.args.tops.now c.args.shape) c.args.words.now ≡ true = total_passes (kind_of c.args.tops.now c.args.shape) c.args.words.now _ c.total_in-total.ensures.0 c.if-answer-ne0.false in h_passed), freeze_fits (kind_of c.args.tops.now c.args.shape) c.requires.0 c.args.words.now ((let h_passed : passes (kind_of c.args.tops.now c.args.shape) c.args.words.now ≡ true = total_passes (kind_of c.args.tops.now c.args.shape) c.args.words.now _ c.total_in-total.ensures.0 c.if-answer-ne0.false in h_passed)) c.args.image.now _ c.total_in-total.ensures.1 c.if-image-total.false)
 
 -- returns-3: 0
 pub returns : goal.returns
-returns c = freeze_0 ((let h_kind : Kind = kind_of c.args.tops.now c.args.shape in h_kind)) ((let h_shaped : Shaped ((let h_kind : Kind = kind_of c.args.tops.now c.args.shape in h_kind)) = c.requires.0 in h_shaped)) ((let h_words : List ℕ = c.args.words.now in h_words)) ((let h_passed : passes ((let h_kind : Kind = kind_of c.args.tops.now c.args.shape in h_kind)) ((let h_words : List ℕ = c.args.words.now in h_words)) ≡ true = total_passes ((let h_kind : Kind = kind_of c.args.tops.now c.args.shape in h_kind)) ((let h_words : List ℕ = c.args.words.now in h_words)) _ c.total_in-total.ensures.0 c.if-answer-ne0.false in h_passed)) c.args.image.now _ c.total_in-total.ensures.1 c.if-image-total.false _ c.write_image.ensures
+returns c = freeze_0 (kind_of c.args.tops.now c.args.shape) c.requires.0 c.args.words.now ((let h_passed : passes (kind_of c.args.tops.now c.args.shape) c.args.words.now ≡ true = total_passes (kind_of c.args.tops.now c.args.shape) c.args.words.now _ c.total_in-total.ensures.0 c.if-answer-ne0.false in h_passed)) c.args.image.now _ c.total_in-total.ensures.1 c.if-image-total.false _ c.write_image.ensures

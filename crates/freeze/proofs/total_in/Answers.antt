@@ -25,7 +25,7 @@ shape_of-ends-then-not-check c = omega (arith, c.ends-1.given)
 
 -- a refusal
 pub returns-then-not-check : goal.returns-then-not-check
-returns-then-not-check c = total_9 ((let h_kind : Kind = kind_of c.args.tops.now c.args.shape in h_kind)) ((let h_words : List ℕ = c.args.words.now in h_words)) (sym c.check.ensures ∙ c.if-not-check.true)
+returns-then-not-check c = total_9 (kind_of c.args.tops.now c.args.shape) c.args.words.now (sym c.check.ensures ∙ c.if-not-check.true)
 
 pub rows_end-from-requires : goal.rows_end-from-requires
 rows_end-from-requires c = omega (arith, c.requires)
@@ -35,47 +35,47 @@ overflow_cast-from c = omega (arith, c.rows_end-from.ensures)
 
 -- shared-slice-read-c
 pub bounds-words-0 : goal.bounds-words-0
-bounds-words-0 c = omega (arith, ((let h_wide : Roomy ((let h_kind : Kind = kind_of c.args.tops.now c.args.shape in h_kind)) (cells_in ((let h_words : List ℕ = c.args.words.now in h_words))) ((let h_words : List ℕ = c.args.words.now in h_words)) = room ((let h_kind : Kind = kind_of c.args.tops.now c.args.shape in h_kind)) ((let h_shaped : Shaped ((let h_kind : Kind = kind_of c.args.tops.now c.args.shape in h_kind)) = c.requires.0 in h_shaped)) ((let h_words : List ℕ = c.args.words.now in h_words)) ((let h_passed : passes ((let h_kind : Kind = kind_of c.args.tops.now c.args.shape in h_kind)) ((let h_words : List ℕ = c.args.words.now in h_words)) ≡ true = sym c.check.ensures ∙ c.if-not-check.false in h_passed)) in h_wide)).long)
+bounds-words-0 c = omega (arith, ((let h_wide : Roomy (kind_of c.args.tops.now c.args.shape) (cells_in c.args.words.now) c.args.words.now = room (kind_of c.args.tops.now c.args.shape) c.requires.0 c.args.words.now ((let h_passed : passes (kind_of c.args.tops.now c.args.shape) c.args.words.now ≡ true = sym c.check.ensures ∙ c.if-not-check.false in h_passed)) in h_wide)).long)
 
 -- cast_end, mul-end, add_end, add-end-2
 pub overflow_cast-end : goal.overflow_cast-end
-overflow_cast-end c = omega (arith, ((let h_wide : Roomy ((let h_kind : Kind = kind_of c.args.tops.now c.args.shape in h_kind)) (cells_in ((let h_words : List ℕ = c.args.words.now in h_words))) ((let h_words : List ℕ = c.args.words.now in h_words)) = room ((let h_kind : Kind = kind_of c.args.tops.now c.args.shape in h_kind)) ((let h_shaped : Shaped ((let h_kind : Kind = kind_of c.args.tops.now c.args.shape in h_kind)) = c.requires.0 in h_shaped)) ((let h_words : List ℕ = c.args.words.now in h_words)) ((let h_passed : passes ((let h_kind : Kind = kind_of c.args.tops.now c.args.shape in h_kind)) ((let h_words : List ℕ = c.args.words.now in h_words)) ≡ true = sym c.check.ensures ∙ c.if-not-check.false in h_passed)) in h_wide)).most)
+overflow_cast-end c = omega (arith, ((let h_wide : Roomy (kind_of c.args.tops.now c.args.shape) (cells_in c.args.words.now) c.args.words.now = room (kind_of c.args.tops.now c.args.shape) c.requires.0 c.args.words.now ((let h_passed : passes (kind_of c.args.tops.now c.args.shape) c.args.words.now ≡ true = sym c.check.ensures ∙ c.if-not-check.false in h_passed)) in h_wide)).most)
 
 pub overflow_mul-end : goal.overflow_mul-end
-overflow_mul-end c = omega (arith, ((let h_wide : Roomy ((let h_kind : Kind = kind_of c.args.tops.now c.args.shape in h_kind)) (cells_in ((let h_words : List ℕ = c.args.words.now in h_words))) ((let h_words : List ℕ = c.args.words.now in h_words)) = room ((let h_kind : Kind = kind_of c.args.tops.now c.args.shape in h_kind)) ((let h_shaped : Shaped ((let h_kind : Kind = kind_of c.args.tops.now c.args.shape in h_kind)) = c.requires.0 in h_shaped)) ((let h_words : List ℕ = c.args.words.now in h_words)) ((let h_passed : passes ((let h_kind : Kind = kind_of c.args.tops.now c.args.shape in h_kind)) ((let h_words : List ℕ = c.args.words.now in h_words)) ≡ true = sym c.check.ensures ∙ c.if-not-check.false in h_passed)) in h_wide)).most)
+overflow_mul-end c = omega (arith, ((let h_wide : Roomy (kind_of c.args.tops.now c.args.shape) (cells_in c.args.words.now) c.args.words.now = room (kind_of c.args.tops.now c.args.shape) c.requires.0 c.args.words.now ((let h_passed : passes (kind_of c.args.tops.now c.args.shape) c.args.words.now ≡ true = sym c.check.ensures ∙ c.if-not-check.false in h_passed)) in h_wide)).most)
 
 pub overflow_add-end : goal.overflow_add-end
-overflow_add-end c = omega (arith, ((let h_wide : Roomy ((let h_kind : Kind = kind_of c.args.tops.now c.args.shape in h_kind)) (cells_in ((let h_words : List ℕ = c.args.words.now in h_words))) ((let h_words : List ℕ = c.args.words.now in h_words)) = room ((let h_kind : Kind = kind_of c.args.tops.now c.args.shape in h_kind)) ((let h_shaped : Shaped ((let h_kind : Kind = kind_of c.args.tops.now c.args.shape in h_kind)) = c.requires.0 in h_shaped)) ((let h_words : List ℕ = c.args.words.now in h_words)) ((let h_passed : passes ((let h_kind : Kind = kind_of c.args.tops.now c.args.shape in h_kind)) ((let h_words : List ℕ = c.args.words.now in h_words)) ≡ true = sym c.check.ensures ∙ c.if-not-check.false in h_passed)) in h_wide)).most)
+overflow_add-end c = omega (arith, ((let h_wide : Roomy (kind_of c.args.tops.now c.args.shape) (cells_in c.args.words.now) c.args.words.now = room (kind_of c.args.tops.now c.args.shape) c.requires.0 c.args.words.now ((let h_passed : passes (kind_of c.args.tops.now c.args.shape) c.args.words.now ≡ true = sym c.check.ensures ∙ c.if-not-check.false in h_passed)) in h_wide)).most)
 
 pub overflow_add-end-2 : goal.overflow_add-end-2
-overflow_add-end-2 c = omega (arith, ((let h_wide : Roomy ((let h_kind : Kind = kind_of c.args.tops.now c.args.shape in h_kind)) (cells_in ((let h_words : List ℕ = c.args.words.now in h_words))) ((let h_words : List ℕ = c.args.words.now in h_words)) = room ((let h_kind : Kind = kind_of c.args.tops.now c.args.shape in h_kind)) ((let h_shaped : Shaped ((let h_kind : Kind = kind_of c.args.tops.now c.args.shape in h_kind)) = c.requires.0 in h_shaped)) ((let h_words : List ℕ = c.args.words.now in h_words)) ((let h_passed : passes ((let h_kind : Kind = kind_of c.args.tops.now c.args.shape in h_kind)) ((let h_words : List ℕ = c.args.words.now in h_words)) ≡ true = sym c.check.ensures ∙ c.if-not-check.false in h_passed)) in h_wide)).most, c.rows_end-from.ensures.1)
+overflow_add-end-2 c = omega (arith, ((let h_wide : Roomy (kind_of c.args.tops.now c.args.shape) (cells_in c.args.words.now) c.args.words.now = room (kind_of c.args.tops.now c.args.shape) c.requires.0 c.args.words.now ((let h_passed : passes (kind_of c.args.tops.now c.args.shape) c.args.words.now ≡ true = sym c.check.ensures ∙ c.if-not-check.false in h_passed)) in h_wide)).most, c.rows_end-from.ensures.1)
 
 pub offset_bounds-words-from : goal.offset_bounds-words-from
 offset_bounds-words-from c = omega (arith, c.rows_end-from.ensures)
 
 -- part-count-end
 pub slice_bounds-count-end : goal.slice_bounds-count-end
-slice_bounds-count-end c = omega (arith, ((let h_wide : Roomy ((let h_kind : Kind = kind_of c.args.tops.now c.args.shape in h_kind)) (cells_in ((let h_words : List ℕ = c.args.words.now in h_words))) ((let h_words : List ℕ = c.args.words.now in h_words)) = room ((let h_kind : Kind = kind_of c.args.tops.now c.args.shape in h_kind)) ((let h_shaped : Shaped ((let h_kind : Kind = kind_of c.args.tops.now c.args.shape in h_kind)) = c.requires.0 in h_shaped)) ((let h_words : List ℕ = c.args.words.now in h_words)) ((let h_passed : passes ((let h_kind : Kind = kind_of c.args.tops.now c.args.shape in h_kind)) ((let h_words : List ℕ = c.args.words.now in h_words)) ≡ true = sym c.check.ensures ∙ c.if-not-check.false in h_passed)) in h_wide)).long, c.rows_end-from.ensures.0)
+slice_bounds-count-end c = omega (arith, ((let h_wide : Roomy (kind_of c.args.tops.now c.args.shape) (cells_in c.args.words.now) c.args.words.now = room (kind_of c.args.tops.now c.args.shape) c.requires.0 c.args.words.now ((let h_passed : passes (kind_of c.args.tops.now c.args.shape) c.args.words.now ≡ true = sym c.check.ensures ∙ c.if-not-check.false in h_passed)) in h_wide)).long, c.rows_end-from.ensures.0)
 
 pub overflow_cast-tops : goal.overflow_cast-tops
 overflow_cast-tops c = omega (arith, c.requires)
 
 -- count-requires
 pub count-blocks-requires : goal.count-blocks-requires
-count-blocks-requires c = (part_here (cells_in ((let h_words : List ℕ = c.args.words.now in h_words))) _ ((let h_words : List ℕ = c.args.words.now in h_words)) (omega (arith, ((let h_wide : Roomy ((let h_kind : Kind = kind_of c.args.tops.now c.args.shape in h_kind)) (cells_in ((let h_words : List ℕ = c.args.words.now in h_words))) ((let h_words : List ℕ = c.args.words.now in h_words)) = room ((let h_kind : Kind = kind_of c.args.tops.now c.args.shape in h_kind)) ((let h_shaped : Shaped ((let h_kind : Kind = kind_of c.args.tops.now c.args.shape in h_kind)) = c.requires.0 in h_shaped)) ((let h_words : List ℕ = c.args.words.now in h_words)) ((let h_passed : passes ((let h_kind : Kind = kind_of c.args.tops.now c.args.shape in h_kind)) ((let h_words : List ℕ = c.args.words.now in h_words)) ≡ true = sym c.check.ensures ∙ c.if-not-check.false in h_passed)) in h_wide)).long, c.rows_end-from.ensures.0)), ((let h_wide : Roomy ((let h_kind : Kind = kind_of c.args.tops.now c.args.shape in h_kind)) (cells_in ((let h_words : List ℕ = c.args.words.now in h_words))) ((let h_words : List ℕ = c.args.words.now in h_words)) = room ((let h_kind : Kind = kind_of c.args.tops.now c.args.shape in h_kind)) ((let h_shaped : Shaped ((let h_kind : Kind = kind_of c.args.tops.now c.args.shape in h_kind)) = c.requires.0 in h_shaped)) ((let h_words : List ℕ = c.args.words.now in h_words)) ((let h_passed : passes ((let h_kind : Kind = kind_of c.args.tops.now c.args.shape in h_kind)) ((let h_words : List ℕ = c.args.words.now in h_words)) ≡ true = sym c.check.ensures ∙ c.if-not-check.false in h_passed)) in h_wide)).most, omega (arith, ((let h_shaped : Shaped ((let h_kind : Kind = kind_of c.args.tops.now c.args.shape in h_kind)) = c.requires.0 in h_shaped)).ends, ((let h_shaped : Shaped ((let h_kind : Kind = kind_of c.args.tops.now c.args.shape in h_kind)) = c.requires.0 in h_shaped)).narrow), total_small ((let h_kind : Kind = kind_of c.args.tops.now c.args.shape in h_kind)) ((let h_shaped : Shaped ((let h_kind : Kind = kind_of c.args.tops.now c.args.shape in h_kind)) = c.requires.0 in h_shaped)) ((let h_words : List ℕ = c.args.words.now in h_words)) ((let h_passed : passes ((let h_kind : Kind = kind_of c.args.tops.now c.args.shape in h_kind)) ((let h_words : List ℕ = c.args.words.now in h_words)) ≡ true = sym c.check.ensures ∙ c.if-not-check.false in h_passed)) _ c.rows_end-from.ensures.0 refl)
+count-blocks-requires c = (part_here (cells_in c.args.words.now) _ c.args.words.now (omega (arith, ((let h_wide : Roomy (kind_of c.args.tops.now c.args.shape) (cells_in c.args.words.now) c.args.words.now = room (kind_of c.args.tops.now c.args.shape) c.requires.0 c.args.words.now ((let h_passed : passes (kind_of c.args.tops.now c.args.shape) c.args.words.now ≡ true = sym c.check.ensures ∙ c.if-not-check.false in h_passed)) in h_wide)).long, c.rows_end-from.ensures.0)), ((let h_wide : Roomy (kind_of c.args.tops.now c.args.shape) (cells_in c.args.words.now) c.args.words.now = room (kind_of c.args.tops.now c.args.shape) c.requires.0 c.args.words.now ((let h_passed : passes (kind_of c.args.tops.now c.args.shape) c.args.words.now ≡ true = sym c.check.ensures ∙ c.if-not-check.false in h_passed)) in h_wide)).most, omega (arith, c.requires.0.ends, c.requires.0.narrow), total_small (kind_of c.args.tops.now c.args.shape) c.requires.0 c.args.words.now ((let h_passed : passes (kind_of c.args.tops.now c.args.shape) c.args.words.now ≡ true = sym c.check.ensures ∙ c.if-not-check.false in h_passed)) _ c.rows_end-from.ensures.0 refl)
 
 pub overflow_add-result : goal.overflow_add-result
 overflow_add-result c = omega (arith, c.rows_end-from.ensures)
 
 -- mul-t20, add-t19, cast-t16
 pub overflow_mul-result : goal.overflow_mul-result
-overflow_mul-result c = omega (arith, (let h_few : c.count-blocks.result ≤ 65536 = total_small ((let h_kind : Kind = kind_of c.args.tops.now c.args.shape in h_kind)) ((let h_shaped : Shaped ((let h_kind : Kind = kind_of c.args.tops.now c.args.shape in h_kind)) = c.requires.0 in h_shaped)) ((let h_words : List ℕ = c.args.words.now in h_words)) ((let h_passed : passes ((let h_kind : Kind = kind_of c.args.tops.now c.args.shape in h_kind)) ((let h_words : List ℕ = c.args.words.now in h_words)) ≡ true = sym c.check.ensures ∙ c.if-not-check.false in h_passed)) _ c.rows_end-from.ensures.0 c.count-blocks.ensures in h_few))
+overflow_mul-result c = omega (arith, (let h_few : c.count-blocks.result ≤ 65536 = total_small (kind_of c.args.tops.now c.args.shape) c.requires.0 c.args.words.now ((let h_passed : passes (kind_of c.args.tops.now c.args.shape) c.args.words.now ≡ true = sym c.check.ensures ∙ c.if-not-check.false in h_passed)) _ c.rows_end-from.ensures.0 c.count-blocks.ensures in h_few))
 
 pub overflow_add-result-2 : goal.overflow_add-result-2
-overflow_add-result-2 c = omega (arith, (let h_few : c.count-blocks.result ≤ 65536 = total_small ((let h_kind : Kind = kind_of c.args.tops.now c.args.shape in h_kind)) ((let h_shaped : Shaped ((let h_kind : Kind = kind_of c.args.tops.now c.args.shape in h_kind)) = c.requires.0 in h_shaped)) ((let h_words : List ℕ = c.args.words.now in h_words)) ((let h_passed : passes ((let h_kind : Kind = kind_of c.args.tops.now c.args.shape in h_kind)) ((let h_words : List ℕ = c.args.words.now in h_words)) ≡ true = sym c.check.ensures ∙ c.if-not-check.false in h_passed)) _ c.rows_end-from.ensures.0 c.count-blocks.ensures in h_few), c.rows_end-from.ensures.1)
+overflow_add-result-2 c = omega (arith, (let h_few : c.count-blocks.result ≤ 65536 = total_small (kind_of c.args.tops.now c.args.shape) c.requires.0 c.args.words.now ((let h_passed : passes (kind_of c.args.tops.now c.args.shape) c.args.words.now ≡ true = sym c.check.ensures ∙ c.if-not-check.false in h_passed)) _ c.rows_end-from.ensures.0 c.count-blocks.ensures in h_few), c.rows_end-from.ensures.1)
 
 pub overflow_cast-result : goal.overflow_cast-result
-overflow_cast-result c = omega (arith, (let h_few : c.count-blocks.result ≤ 65536 = total_small ((let h_kind : Kind = kind_of c.args.tops.now c.args.shape in h_kind)) ((let h_shaped : Shaped ((let h_kind : Kind = kind_of c.args.tops.now c.args.shape in h_kind)) = c.requires.0 in h_shaped)) ((let h_words : List ℕ = c.args.words.now in h_words)) ((let h_passed : passes ((let h_kind : Kind = kind_of c.args.tops.now c.args.shape in h_kind)) ((let h_words : List ℕ = c.args.words.now in h_words)) ≡ true = sym c.check.ensures ∙ c.if-not-check.false in h_passed)) _ c.rows_end-from.ensures.0 c.count-blocks.ensures in h_few), c.rows_end-from.ensures.1)
+overflow_cast-result c = omega (arith, (let h_few : c.count-blocks.result ≤ 65536 = total_small (kind_of c.args.tops.now c.args.shape) c.requires.0 c.args.words.now ((let h_passed : passes (kind_of c.args.tops.now c.args.shape) c.args.words.now ≡ true = sym c.check.ensures ∙ c.if-not-check.false in h_passed)) _ c.rows_end-from.ensures.0 c.count-blocks.ensures in h_few), c.rows_end-from.ensures.1)
 
 pub shape_of-sets : goal.shape_of-sets
 shape_of-sets c = omega (arith, c.sets-1.given)
@@ -85,4 +85,4 @@ shape_of-ends c = omega (arith, c.ends-1.given)
 
 -- the total
 pub returns : goal.returns
-returns c = says_total ((let h_kind : Kind = kind_of c.args.tops.now c.args.shape in h_kind)) ((let h_shaped : Shaped ((let h_kind : Kind = kind_of c.args.tops.now c.args.shape in h_kind)) = c.requires.0 in h_shaped)) ((let h_words : List ℕ = c.args.words.now in h_words)) ((let h_passed : passes ((let h_kind : Kind = kind_of c.args.tops.now c.args.shape in h_kind)) ((let h_words : List ℕ = c.args.words.now in h_words)) ≡ true = sym c.check.ensures ∙ c.if-not-check.false in h_passed)) _ c.rows_end-from.ensures.0 _ _ c.count-blocks.ensures refl
+returns c = says_total (kind_of c.args.tops.now c.args.shape) c.requires.0 c.args.words.now ((let h_passed : passes (kind_of c.args.tops.now c.args.shape) c.args.words.now ≡ true = sym c.check.ensures ∙ c.if-not-check.false in h_passed)) _ c.rows_end-from.ensures.0 _ _ c.count-blocks.ensures refl

@@ -27,34 +27,34 @@ overflow_add-front c = omega (arith, c.rows_end-from.ensures)
 
 -- shared-slice-read-c
 pub bounds-words-0 : goal.bounds-words-0
-bounds-words-0 c = omega (arith, ((let h_wide : Roomy ((let h_kind : Kind = kind_of c.args.tops.now c.args.shape in h_kind)) (cells_in ((let h_words : List ℕ = c.args.words.now in h_words))) ((let h_words : List ℕ = c.args.words.now in h_words)) = room ((let h_kind : Kind = kind_of c.args.tops.now c.args.shape in h_kind)) ((let h_shaped : Shaped ((let h_kind : Kind = kind_of c.args.tops.now c.args.shape in h_kind)) = c.requires.0 in h_shaped)) ((let h_words : List ℕ = c.args.words.now in h_words)) ((let h_passed : passes ((let h_kind : Kind = kind_of c.args.tops.now c.args.shape in h_kind)) ((let h_words : List ℕ = c.args.words.now in h_words)) ≡ true = c.requires.1 in h_passed)) in h_wide)).long)
+bounds-words-0 c = omega (arith, ((let h_wide : Roomy (kind_of c.args.tops.now c.args.shape) (cells_in c.args.words.now) c.args.words.now = room (kind_of c.args.tops.now c.args.shape) c.requires.0 c.args.words.now c.requires.1 in h_wide)).long)
 
 -- cast_end, mul-end, add_end, add-end-2
 pub overflow_cast-end : goal.overflow_cast-end
-overflow_cast-end c = omega (arith, ((let h_wide : Roomy ((let h_kind : Kind = kind_of c.args.tops.now c.args.shape in h_kind)) (cells_in ((let h_words : List ℕ = c.args.words.now in h_words))) ((let h_words : List ℕ = c.args.words.now in h_words)) = room ((let h_kind : Kind = kind_of c.args.tops.now c.args.shape in h_kind)) ((let h_shaped : Shaped ((let h_kind : Kind = kind_of c.args.tops.now c.args.shape in h_kind)) = c.requires.0 in h_shaped)) ((let h_words : List ℕ = c.args.words.now in h_words)) ((let h_passed : passes ((let h_kind : Kind = kind_of c.args.tops.now c.args.shape in h_kind)) ((let h_words : List ℕ = c.args.words.now in h_words)) ≡ true = c.requires.1 in h_passed)) in h_wide)).most)
+overflow_cast-end c = omega (arith, ((let h_wide : Roomy (kind_of c.args.tops.now c.args.shape) (cells_in c.args.words.now) c.args.words.now = room (kind_of c.args.tops.now c.args.shape) c.requires.0 c.args.words.now c.requires.1 in h_wide)).most)
 
 pub overflow_mul-end : goal.overflow_mul-end
-overflow_mul-end c = omega (arith, ((let h_wide : Roomy ((let h_kind : Kind = kind_of c.args.tops.now c.args.shape in h_kind)) (cells_in ((let h_words : List ℕ = c.args.words.now in h_words))) ((let h_words : List ℕ = c.args.words.now in h_words)) = room ((let h_kind : Kind = kind_of c.args.tops.now c.args.shape in h_kind)) ((let h_shaped : Shaped ((let h_kind : Kind = kind_of c.args.tops.now c.args.shape in h_kind)) = c.requires.0 in h_shaped)) ((let h_words : List ℕ = c.args.words.now in h_words)) ((let h_passed : passes ((let h_kind : Kind = kind_of c.args.tops.now c.args.shape in h_kind)) ((let h_words : List ℕ = c.args.words.now in h_words)) ≡ true = c.requires.1 in h_passed)) in h_wide)).most)
+overflow_mul-end c = omega (arith, ((let h_wide : Roomy (kind_of c.args.tops.now c.args.shape) (cells_in c.args.words.now) c.args.words.now = room (kind_of c.args.tops.now c.args.shape) c.requires.0 c.args.words.now c.requires.1 in h_wide)).most)
 
 pub overflow_add-end : goal.overflow_add-end
-overflow_add-end c = omega (arith, ((let h_wide : Roomy ((let h_kind : Kind = kind_of c.args.tops.now c.args.shape in h_kind)) (cells_in ((let h_words : List ℕ = c.args.words.now in h_words))) ((let h_words : List ℕ = c.args.words.now in h_words)) = room ((let h_kind : Kind = kind_of c.args.tops.now c.args.shape in h_kind)) ((let h_shaped : Shaped ((let h_kind : Kind = kind_of c.args.tops.now c.args.shape in h_kind)) = c.requires.0 in h_shaped)) ((let h_words : List ℕ = c.args.words.now in h_words)) ((let h_passed : passes ((let h_kind : Kind = kind_of c.args.tops.now c.args.shape in h_kind)) ((let h_words : List ℕ = c.args.words.now in h_words)) ≡ true = c.requires.1 in h_passed)) in h_wide)).most)
+overflow_add-end c = omega (arith, ((let h_wide : Roomy (kind_of c.args.tops.now c.args.shape) (cells_in c.args.words.now) c.args.words.now = room (kind_of c.args.tops.now c.args.shape) c.requires.0 c.args.words.now c.requires.1 in h_wide)).most)
 
 pub overflow_add-end-2 : goal.overflow_add-end-2
-overflow_add-end-2 c = omega (arith, ((let h_wide : Roomy ((let h_kind : Kind = kind_of c.args.tops.now c.args.shape in h_kind)) (cells_in ((let h_words : List ℕ = c.args.words.now in h_words))) ((let h_words : List ℕ = c.args.words.now in h_words)) = room ((let h_kind : Kind = kind_of c.args.tops.now c.args.shape in h_kind)) ((let h_shaped : Shaped ((let h_kind : Kind = kind_of c.args.tops.now c.args.shape in h_kind)) = c.requires.0 in h_shaped)) ((let h_words : List ℕ = c.args.words.now in h_words)) ((let h_passed : passes ((let h_kind : Kind = kind_of c.args.tops.now c.args.shape in h_kind)) ((let h_words : List ℕ = c.args.words.now in h_words)) ≡ true = c.requires.1 in h_passed)) in h_wide)).most, c.rows_end-from.ensures.1)
+overflow_add-end-2 c = omega (arith, ((let h_wide : Roomy (kind_of c.args.tops.now c.args.shape) (cells_in c.args.words.now) c.args.words.now = room (kind_of c.args.tops.now c.args.shape) c.requires.0 c.args.words.now c.requires.1 in h_wide)).most, c.rows_end-from.ensures.1)
 
 pub slice_bounds-put_front-end : goal.slice_bounds-put_front-end
 slice_bounds-put_front-end c = omega (arith, c.rows_end-from.ensures, c.requires)
 
 -- the front's part of the image, and of the words
 pub slice_bounds-put_front-end-2 : goal.slice_bounds-put_front-end-2
-slice_bounds-put_front-end-2 c = front_taken ((let h_kind : Kind = kind_of c.args.tops.now c.args.shape in h_kind)) ((let h_shaped : Shaped ((let h_kind : Kind = kind_of c.args.tops.now c.args.shape in h_kind)) = c.requires.0 in h_shaped)) ((let h_words : List ℕ = c.args.words.now in h_words)) ((let h_passed : passes ((let h_kind : Kind = kind_of c.args.tops.now c.args.shape in h_kind)) ((let h_words : List ℕ = c.args.words.now in h_words)) ≡ true = c.requires.1 in h_passed)) _ ((let h_ending : c.rows_end-from.result ≡ ((let h_kind : Kind = kind_of c.args.tops.now c.args.shape in h_kind)).head + row_words ((let h_kind : Kind = kind_of c.args.tops.now c.args.shape in h_kind)) = c.rows_end-from.ensures.0 in h_ending)) ((let h_image : List ℕ = c.args.image.now in h_image)) ((let h_fits : image_size ((let h_kind : Kind = kind_of c.args.tops.now c.args.shape in h_kind)) (table_of ((let h_kind : Kind = kind_of c.args.tops.now c.args.shape in h_kind)) ((let h_words : List ℕ = c.args.words.now in h_words))) ≤ length ((let h_image : List ℕ = c.args.image.now in h_image)) = c.requires.2 in h_fits))
+slice_bounds-put_front-end-2 c = front_taken (kind_of c.args.tops.now c.args.shape) c.requires.0 c.args.words.now c.requires.1 _ c.rows_end-from.ensures.0 c.args.image.now c.requires.2
 
 pub slice_bounds-put_front-end-3 : goal.slice_bounds-put_front-end-3
-slice_bounds-put_front-end-3 c = words_taken ((let h_kind : Kind = kind_of c.args.tops.now c.args.shape in h_kind)) ((let h_shaped : Shaped ((let h_kind : Kind = kind_of c.args.tops.now c.args.shape in h_kind)) = c.requires.0 in h_shaped)) ((let h_words : List ℕ = c.args.words.now in h_words)) ((let h_passed : passes ((let h_kind : Kind = kind_of c.args.tops.now c.args.shape in h_kind)) ((let h_words : List ℕ = c.args.words.now in h_words)) ≡ true = c.requires.1 in h_passed)) _ ((let h_ending : c.rows_end-from.result ≡ ((let h_kind : Kind = kind_of c.args.tops.now c.args.shape in h_kind)).head + row_words ((let h_kind : Kind = kind_of c.args.tops.now c.args.shape in h_kind)) = c.rows_end-from.ensures.0 in h_ending)) ((let h_image : List ℕ = c.args.image.now in h_image)) ((let h_fits : image_size ((let h_kind : Kind = kind_of c.args.tops.now c.args.shape in h_kind)) (table_of ((let h_kind : Kind = kind_of c.args.tops.now c.args.shape in h_kind)) ((let h_words : List ℕ = c.args.words.now in h_words))) ≤ length ((let h_image : List ℕ = c.args.image.now in h_image)) = c.requires.2 in h_fits))
+slice_bounds-put_front-end-3 c = words_taken (kind_of c.args.tops.now c.args.shape) c.requires.0 c.args.words.now c.requires.1 _ c.rows_end-from.ensures.0 c.args.image.now c.requires.2
 
 -- put-front-requires
 pub put_front-requires : goal.put_front-requires
-put_front-requires c = (front_room ((let h_kind : Kind = kind_of c.args.tops.now c.args.shape in h_kind)) ((let h_shaped : Shaped ((let h_kind : Kind = kind_of c.args.tops.now c.args.shape in h_kind)) = c.requires.0 in h_shaped)) ((let h_words : List ℕ = c.args.words.now in h_words)) ((let h_passed : passes ((let h_kind : Kind = kind_of c.args.tops.now c.args.shape in h_kind)) ((let h_words : List ℕ = c.args.words.now in h_words)) ≡ true = c.requires.1 in h_passed)) _ ((let h_ending : c.rows_end-from.result ≡ ((let h_kind : Kind = kind_of c.args.tops.now c.args.shape in h_kind)).head + row_words ((let h_kind : Kind = kind_of c.args.tops.now c.args.shape in h_kind)) = c.rows_end-from.ensures.0 in h_ending)) ((let h_image : List ℕ = c.args.image.now in h_image)) ((let h_fits : image_size ((let h_kind : Kind = kind_of c.args.tops.now c.args.shape in h_kind)) (table_of ((let h_kind : Kind = kind_of c.args.tops.now c.args.shape in h_kind)) ((let h_words : List ℕ = c.args.words.now in h_words))) ≤ length ((let h_image : List ℕ = c.args.image.now in h_image)) = c.requires.2 in h_fits)), front_some ((let h_kind : Kind = kind_of c.args.tops.now c.args.shape in h_kind)) ((let h_shaped : Shaped ((let h_kind : Kind = kind_of c.args.tops.now c.args.shape in h_kind)) = c.requires.0 in h_shaped)) ((let h_words : List ℕ = c.args.words.now in h_words)) ((let h_passed : passes ((let h_kind : Kind = kind_of c.args.tops.now c.args.shape in h_kind)) ((let h_words : List ℕ = c.args.words.now in h_words)) ≡ true = c.requires.1 in h_passed)) _ ((let h_ending : c.rows_end-from.result ≡ ((let h_kind : Kind = kind_of c.args.tops.now c.args.shape in h_kind)).head + row_words ((let h_kind : Kind = kind_of c.args.tops.now c.args.shape in h_kind)) = c.rows_end-from.ensures.0 in h_ending)) ((let h_image : List ℕ = c.args.image.now in h_image)) ((let h_fits : image_size ((let h_kind : Kind = kind_of c.args.tops.now c.args.shape in h_kind)) (table_of ((let h_kind : Kind = kind_of c.args.tops.now c.args.shape in h_kind)) ((let h_words : List ℕ = c.args.words.now in h_words))) ≤ length ((let h_image : List ℕ = c.args.image.now in h_image)) = c.requires.2 in h_fits)))
+put_front-requires c = (front_room (kind_of c.args.tops.now c.args.shape) c.requires.0 c.args.words.now c.requires.1 _ c.rows_end-from.ensures.0 c.args.image.now c.requires.2, front_some (kind_of c.args.tops.now c.args.shape) c.requires.0 c.args.words.now c.requires.1 _ c.rows_end-from.ensures.0 c.args.image.now c.requires.2)
 
 pub offset_bounds-image-front : goal.offset_bounds-image-front
 offset_bounds-image-front c = omega (arith, c.rows_end-from.ensures)
@@ -70,7 +70,7 @@ offset_bounds-words-from c = omega (arith, c.rows_end-from.ensures)
 
 -- part-write-end-2
 pub slice_bounds-write-end-2 : goal.slice_bounds-write-end-2
-slice_bounds-write-end-2 c = omega (arith, ((let h_wide : Roomy ((let h_kind : Kind = kind_of c.args.tops.now c.args.shape in h_kind)) (cells_in ((let h_words : List ℕ = c.args.words.now in h_words))) ((let h_words : List ℕ = c.args.words.now in h_words)) = room ((let h_kind : Kind = kind_of c.args.tops.now c.args.shape in h_kind)) ((let h_shaped : Shaped ((let h_kind : Kind = kind_of c.args.tops.now c.args.shape in h_kind)) = c.requires.0 in h_shaped)) ((let h_words : List ℕ = c.args.words.now in h_words)) ((let h_passed : passes ((let h_kind : Kind = kind_of c.args.tops.now c.args.shape in h_kind)) ((let h_words : List ℕ = c.args.words.now in h_words)) ≡ true = c.requires.1 in h_passed)) in h_wide)).long, (let h_ending : c.rows_end-from.result ≡ ((let h_kind : Kind = kind_of c.args.tops.now c.args.shape in h_kind)).head + row_words ((let h_kind : Kind = kind_of c.args.tops.now c.args.shape in h_kind)) = c.rows_end-from.ensures.0 in h_ending))
+slice_bounds-write-end-2 c = omega (arith, ((let h_wide : Roomy (kind_of c.args.tops.now c.args.shape) (cells_in c.args.words.now) c.args.words.now = room (kind_of c.args.tops.now c.args.shape) c.requires.0 c.args.words.now c.requires.1 in h_wide)).long, c.rows_end-from.ensures.0)
 
 pub overflow_cast-tops : goal.overflow_cast-tops
 overflow_cast-tops c = omega (arith, c.requires)
@@ -78,12 +78,12 @@ overflow_cast-tops c = omega (arith, c.requires)
 -- write-requires
 pub write-requires : goal.write-requires
 write-requires c = (
-  part_here (cells_in ((let h_words : List ℕ = c.args.words.now in h_words))) _ ((let h_words : List ℕ = c.args.words.now in h_words)) (omega (arith, ((let h_wide : Roomy ((let h_kind : Kind = kind_of c.args.tops.now c.args.shape in h_kind)) (cells_in ((let h_words : List ℕ = c.args.words.now in h_words))) ((let h_words : List ℕ = c.args.words.now in h_words)) = room ((let h_kind : Kind = kind_of c.args.tops.now c.args.shape in h_kind)) ((let h_shaped : Shaped ((let h_kind : Kind = kind_of c.args.tops.now c.args.shape in h_kind)) = c.requires.0 in h_shaped)) ((let h_words : List ℕ = c.args.words.now in h_words)) ((let h_passed : passes ((let h_kind : Kind = kind_of c.args.tops.now c.args.shape in h_kind)) ((let h_words : List ℕ = c.args.words.now in h_words)) ≡ true = c.requires.1 in h_passed)) in h_wide)).long, (let h_ending : c.rows_end-from.result ≡ ((let h_kind : Kind = kind_of c.args.tops.now c.args.shape in h_kind)).head + row_words ((let h_kind : Kind = kind_of c.args.tops.now c.args.shape in h_kind)) = c.rows_end-from.ensures.0 in h_ending))),
-  ((let h_wide : Roomy ((let h_kind : Kind = kind_of c.args.tops.now c.args.shape in h_kind)) (cells_in ((let h_words : List ℕ = c.args.words.now in h_words))) ((let h_words : List ℕ = c.args.words.now in h_words)) = room ((let h_kind : Kind = kind_of c.args.tops.now c.args.shape in h_kind)) ((let h_shaped : Shaped ((let h_kind : Kind = kind_of c.args.tops.now c.args.shape in h_kind)) = c.requires.0 in h_shaped)) ((let h_words : List ℕ = c.args.words.now in h_words)) ((let h_passed : passes ((let h_kind : Kind = kind_of c.args.tops.now c.args.shape in h_kind)) ((let h_words : List ℕ = c.args.words.now in h_words)) ≡ true = c.requires.1 in h_passed)) in h_wide)).most,
-  omega (arith, ((let h_shaped : Shaped ((let h_kind : Kind = kind_of c.args.tops.now c.args.shape in h_kind)) = c.requires.0 in h_shaped)).ends, ((let h_shaped : Shaped ((let h_kind : Kind = kind_of c.args.tops.now c.args.shape in h_kind)) = c.requires.0 in h_shaped)).narrow),
-  blocks_room ((let h_kind : Kind = kind_of c.args.tops.now c.args.shape in h_kind)) ((let h_shaped : Shaped ((let h_kind : Kind = kind_of c.args.tops.now c.args.shape in h_kind)) = c.requires.0 in h_shaped)) ((let h_words : List ℕ = c.args.words.now in h_words)) ((let h_passed : passes ((let h_kind : Kind = kind_of c.args.tops.now c.args.shape in h_kind)) ((let h_words : List ℕ = c.args.words.now in h_words)) ≡ true = c.requires.1 in h_passed)) _ ((let h_ending : c.rows_end-from.result ≡ ((let h_kind : Kind = kind_of c.args.tops.now c.args.shape in h_kind)).head + row_words ((let h_kind : Kind = kind_of c.args.tops.now c.args.shape in h_kind)) = c.rows_end-from.ensures.0 in h_ending)) ((let h_image : List ℕ = c.args.image.now in h_image)) ((let h_fits : image_size ((let h_kind : Kind = kind_of c.args.tops.now c.args.shape in h_kind)) (table_of ((let h_kind : Kind = kind_of c.args.tops.now c.args.shape in h_kind)) ((let h_words : List ℕ = c.args.words.now in h_words))) ≤ length ((let h_image : List ℕ = c.args.image.now in h_image)) = c.requires.2 in h_fits)) _ c.put_front.ensures,
-  total_small ((let h_kind : Kind = kind_of c.args.tops.now c.args.shape in h_kind)) ((let h_shaped : Shaped ((let h_kind : Kind = kind_of c.args.tops.now c.args.shape in h_kind)) = c.requires.0 in h_shaped)) ((let h_words : List ℕ = c.args.words.now in h_words)) ((let h_passed : passes ((let h_kind : Kind = kind_of c.args.tops.now c.args.shape in h_kind)) ((let h_words : List ℕ = c.args.words.now in h_words)) ≡ true = c.requires.1 in h_passed)) _ ((let h_ending : c.rows_end-from.result ≡ ((let h_kind : Kind = kind_of c.args.tops.now c.args.shape in h_kind)).head + row_words ((let h_kind : Kind = kind_of c.args.tops.now c.args.shape in h_kind)) = c.rows_end-from.ensures.0 in h_ending)) refl,
-  named_part ((let h_kind : Kind = kind_of c.args.tops.now c.args.shape in h_kind)) ((let h_shaped : Shaped ((let h_kind : Kind = kind_of c.args.tops.now c.args.shape in h_kind)) = c.requires.0 in h_shaped)) ((let h_words : List ℕ = c.args.words.now in h_words)) ((let h_passed : passes ((let h_kind : Kind = kind_of c.args.tops.now c.args.shape in h_kind)) ((let h_words : List ℕ = c.args.words.now in h_words)) ≡ true = c.requires.1 in h_passed)) _ ((let h_ending : c.rows_end-from.result ≡ ((let h_kind : Kind = kind_of c.args.tops.now c.args.shape in h_kind)).head + row_words ((let h_kind : Kind = kind_of c.args.tops.now c.args.shape in h_kind)) = c.rows_end-from.ensures.0 in h_ending)) ((let h_image : List ℕ = c.args.image.now in h_image)) ((let h_fits : image_size ((let h_kind : Kind = kind_of c.args.tops.now c.args.shape in h_kind)) (table_of ((let h_kind : Kind = kind_of c.args.tops.now c.args.shape in h_kind)) ((let h_words : List ℕ = c.args.words.now in h_words))) ≤ length ((let h_image : List ℕ = c.args.image.now in h_image)) = c.requires.2 in h_fits)),
+  part_here (cells_in c.args.words.now) _ c.args.words.now (omega (arith, ((let h_wide : Roomy (kind_of c.args.tops.now c.args.shape) (cells_in c.args.words.now) c.args.words.now = room (kind_of c.args.tops.now c.args.shape) c.requires.0 c.args.words.now c.requires.1 in h_wide)).long, c.rows_end-from.ensures.0)),
+  ((let h_wide : Roomy (kind_of c.args.tops.now c.args.shape) (cells_in c.args.words.now) c.args.words.now = room (kind_of c.args.tops.now c.args.shape) c.requires.0 c.args.words.now c.requires.1 in h_wide)).most,
+  omega (arith, c.requires.0.ends, c.requires.0.narrow),
+  blocks_room (kind_of c.args.tops.now c.args.shape) c.requires.0 c.args.words.now c.requires.1 _ c.rows_end-from.ensures.0 c.args.image.now c.requires.2 _ c.put_front.ensures,
+  total_small (kind_of c.args.tops.now c.args.shape) c.requires.0 c.args.words.now c.requires.1 _ c.rows_end-from.ensures.0 refl,
+  named_part (kind_of c.args.tops.now c.args.shape) c.requires.0 c.args.words.now c.requires.1 _ c.rows_end-from.ensures.0 c.args.image.now c.requires.2,
 )
 
 pub shape_of-image : goal.shape_of-image
@@ -91,4 +91,4 @@ shape_of-image c = omega (arith, c.image-2-1.given, c.image-1.given)
 
 -- returns
 pub returns : goal.returns
-returns c = image_written ((let h_kind : Kind = kind_of c.args.tops.now c.args.shape in h_kind)) ((let h_shaped : Shaped ((let h_kind : Kind = kind_of c.args.tops.now c.args.shape in h_kind)) = c.requires.0 in h_shaped)) ((let h_words : List ℕ = c.args.words.now in h_words)) ((let h_passed : passes ((let h_kind : Kind = kind_of c.args.tops.now c.args.shape in h_kind)) ((let h_words : List ℕ = c.args.words.now in h_words)) ≡ true = c.requires.1 in h_passed)) _ ((let h_ending : c.rows_end-from.result ≡ ((let h_kind : Kind = kind_of c.args.tops.now c.args.shape in h_kind)).head + row_words ((let h_kind : Kind = kind_of c.args.tops.now c.args.shape in h_kind)) = c.rows_end-from.ensures.0 in h_ending)) ((let h_image : List ℕ = c.args.image.now in h_image)) ((let h_fits : image_size ((let h_kind : Kind = kind_of c.args.tops.now c.args.shape in h_kind)) (table_of ((let h_kind : Kind = kind_of c.args.tops.now c.args.shape in h_kind)) ((let h_words : List ℕ = c.args.words.now in h_words))) ≤ length ((let h_image : List ℕ = c.args.image.now in h_image)) = c.requires.2 in h_fits)) _ c.put_front.ensures _ c.write.ensures
+returns c = image_written (kind_of c.args.tops.now c.args.shape) c.requires.0 c.args.words.now c.requires.1 _ c.rows_end-from.ensures.0 c.args.image.now c.requires.2 _ c.put_front.ensures _ c.write.ensures

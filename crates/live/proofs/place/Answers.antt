@@ -15,32 +15,32 @@ use Rattle.live.proofs.place.Goals as goal
 
 -- the default
 pub returns-then-number-eq65535 : goal.returns-then-number-eq65535
-returns-then-number-eq65535 c = place_default ((let h_kind : Kind = kind_of c.args.tops.now c.args.shape in h_kind)) ((let h_words : List ℕ = c.args.words.now in h_words)) ((let h_number : ℕ = c.args.number in h_number)) c.if-number-eq65535.true
+returns-then-number-eq65535 c = place_default (kind_of c.args.tops.now c.args.shape) c.args.words.now c.args.number c.if-number-eq65535.true
 
 -- shared-slice-read-n
 pub bounds-words-1 : goal.bounds-words-1
-bounds-words-1 c = omega (arith, ((let h_wide : Roomy ((let h_kind : Kind = kind_of c.args.tops.now c.args.shape in h_kind)) (cells_in ((let h_words : List ℕ = c.args.words.now in h_words))) ((let h_words : List ℕ = c.args.words.now in h_words)) = room ((let h_kind : Kind = kind_of c.args.tops.now c.args.shape in h_kind)) ((let h_shaped : Shaped ((let h_kind : Kind = kind_of c.args.tops.now c.args.shape in h_kind)) = c.requires.0 in h_shaped)) ((let h_words : List ℕ = c.args.words.now in h_words)) ((let h_number : ℕ = c.args.number in h_number)) c.requires.1 in h_wide)).long)
+bounds-words-1 c = omega (arith, ((let h_wide : Roomy (kind_of c.args.tops.now c.args.shape) (cells_in c.args.words.now) c.args.words.now = room (kind_of c.args.tops.now c.args.shape) c.requires.0 c.args.words.now c.args.number c.requires.1 in h_wide)).long)
 
 -- part-before-end
 pub slice_bounds-before-end : goal.slice_bounds-before-end
-slice_bounds-before-end c = omega (arith, ((let h_wide : Roomy ((let h_kind : Kind = kind_of c.args.tops.now c.args.shape in h_kind)) (cells_in ((let h_words : List ℕ = c.args.words.now in h_words))) ((let h_words : List ℕ = c.args.words.now in h_words)) = room ((let h_kind : Kind = kind_of c.args.tops.now c.args.shape in h_kind)) ((let h_shaped : Shaped ((let h_kind : Kind = kind_of c.args.tops.now c.args.shape in h_kind)) = c.requires.0 in h_shaped)) ((let h_words : List ℕ = c.args.words.now in h_words)) ((let h_number : ℕ = c.args.number in h_number)) c.requires.1 in h_wide)).long, c.rows_end-from.ensures.0)
+slice_bounds-before-end c = omega (arith, ((let h_wide : Roomy (kind_of c.args.tops.now c.args.shape) (cells_in c.args.words.now) c.args.words.now = room (kind_of c.args.tops.now c.args.shape) c.requires.0 c.args.words.now c.args.number c.requires.1 in h_wide)).long, c.rows_end-from.ensures.0)
 
 -- before-requires
 pub before-p-requires : goal.before-p-requires
 before-p-requires c =
-    let t = slice_table ((let h_kind : Kind = kind_of c.args.tops.now c.args.shape in h_kind)) ((let h_words : List ℕ = c.args.words.now in h_words)) _ c.rows_end-from.ensures.0 in
-    (omega (arith, ((let h_good : Sound ((let h_kind : Kind = kind_of c.args.tops.now c.args.shape in h_kind)) ((let h_words : List ℕ = c.args.words.now in h_words)) = sound ((let h_kind : Kind = kind_of c.args.tops.now c.args.shape in h_kind)) ((let h_shaped : Shaped ((let h_kind : Kind = kind_of c.args.tops.now c.args.shape in h_kind)) = c.requires.0 in h_shaped)) ((let h_words : List ℕ = c.args.words.now in h_words)) c.requires.1.pass in h_good)).few, ((let h_shaped : Shaped ((let h_kind : Kind = kind_of c.args.tops.now c.args.shape in h_kind)) = c.requires.0 in h_shaped)).few), ((let h_shaped : Shaped ((let h_kind : Kind = kind_of c.args.tops.now c.args.shape in h_kind)) = c.requires.0 in h_shaped)).narrow, ap (λ t. rising_from 0 t.rules) t ∙ ((let h_good : Sound ((let h_kind : Kind = kind_of c.args.tops.now c.args.shape in h_kind)) ((let h_words : List ℕ = c.args.words.now in h_words)) = sound ((let h_kind : Kind = kind_of c.args.tops.now c.args.shape in h_kind)) ((let h_shaped : Shaped ((let h_kind : Kind = kind_of c.args.tops.now c.args.shape in h_kind)) = c.requires.0 in h_shaped)) ((let h_words : List ℕ = c.args.words.now in h_words)) c.requires.1.pass in h_good)).rising)
+    let t = slice_table (kind_of c.args.tops.now c.args.shape) c.args.words.now _ c.rows_end-from.ensures.0 in
+    (omega (arith, ((let h_good : Sound (kind_of c.args.tops.now c.args.shape) c.args.words.now = sound (kind_of c.args.tops.now c.args.shape) c.requires.0 c.args.words.now c.requires.1.pass in h_good)).few, c.requires.0.few), c.requires.0.narrow, ap (λ t. rising_from 0 t.rules) t ∙ ((let h_good : Sound (kind_of c.args.tops.now c.args.shape) c.args.words.now = sound (kind_of c.args.tops.now c.args.shape) c.requires.0 c.args.words.now c.requires.1.pass in h_good)).rising)
 
 -- add_row_start
 pub overflow_add-p : goal.overflow_add-p
-overflow_add-p c = omega (arith, c.before-p.ensures.1, ((let h_good : Sound ((let h_kind : Kind = kind_of c.args.tops.now c.args.shape in h_kind)) ((let h_words : List ℕ = c.args.words.now in h_words)) = sound ((let h_kind : Kind = kind_of c.args.tops.now c.args.shape in h_kind)) ((let h_shaped : Shaped ((let h_kind : Kind = kind_of c.args.tops.now c.args.shape in h_kind)) = c.requires.0 in h_shaped)) ((let h_words : List ℕ = c.args.words.now in h_words)) c.requires.1.pass in h_good)).few, ((let h_shaped : Shaped ((let h_kind : Kind = kind_of c.args.tops.now c.args.shape in h_kind)) = c.requires.0 in h_shaped)).few)
+overflow_add-p c = omega (arith, c.before-p.ensures.1, ((let h_good : Sound (kind_of c.args.tops.now c.args.shape) c.args.words.now = sound (kind_of c.args.tops.now c.args.shape) c.requires.0 c.args.words.now c.requires.1.pass in h_good)).few, c.requires.0.few)
 
 -- row-start-requires
 pub row_start-requires : goal.row_start-requires
-row_start-requires c = (((let h_shaped : Shaped ((let h_kind : Kind = kind_of c.args.tops.now c.args.shape in h_kind)) = c.requires.0 in h_shaped)).narrow, omega (arith, c.before-p.ensures.1, ((let h_good : Sound ((let h_kind : Kind = kind_of c.args.tops.now c.args.shape in h_kind)) ((let h_words : List ℕ = c.args.words.now in h_words)) = sound ((let h_kind : Kind = kind_of c.args.tops.now c.args.shape in h_kind)) ((let h_shaped : Shaped ((let h_kind : Kind = kind_of c.args.tops.now c.args.shape in h_kind)) = c.requires.0 in h_shaped)) ((let h_words : List ℕ = c.args.words.now in h_words)) c.requires.1.pass in h_good)).few, ((let h_shaped : Shaped ((let h_kind : Kind = kind_of c.args.tops.now c.args.shape in h_kind)) = c.requires.0 in h_shaped)).few))
+row_start-requires c = (c.requires.0.narrow, omega (arith, c.before-p.ensures.1, ((let h_good : Sound (kind_of c.args.tops.now c.args.shape) c.args.words.now = sound (kind_of c.args.tops.now c.args.shape) c.requires.0 c.args.words.now c.requires.1.pass in h_good)).few, c.requires.0.few))
 
 -- another rule
 pub returns : goal.returns
 returns c =
-    let t = slice_table ((let h_kind : Kind = kind_of c.args.tops.now c.args.shape in h_kind)) ((let h_words : List ℕ = c.args.words.now in h_words)) _ c.rows_end-from.ensures.0 in
-    c.row_start.ensures.0 ∙ place_rule_lem ((let h_kind : Kind = kind_of c.args.tops.now c.args.shape in h_kind)) ((let h_words : List ℕ = c.args.words.now in h_words)) ((let h_number : ℕ = c.args.number in h_number)) c.if-number-eq65535.false _ (c.before-p.ensures.0 ∙ ap (λ t. ahead ((let h_number : ℕ = c.args.number in h_number)) t.rules) t)
+    let t = slice_table (kind_of c.args.tops.now c.args.shape) c.args.words.now _ c.rows_end-from.ensures.0 in
+    c.row_start.ensures.0 ∙ place_rule_lem (kind_of c.args.tops.now c.args.shape) c.args.words.now c.args.number c.if-number-eq65535.false _ (c.before-p.ensures.0 ∙ ap (λ t. ahead c.args.number t.rules) t)
