@@ -1,4 +1,6 @@
 // What an insert or a delete answers, in a store of any kind, and where the rule goes or stands: first whether the store passes the check, then what is decided of its table. The words are only read. The sets and the ends of the rules are written into scratch that is lent.
+#![tactic(auto)]
+
 ghost use Rattle.std.specs.Prelude.{◌≡◌, suc, ◌+◌, ◌*◌, length, get_or};
 ghost use Rattle.model.specs.Table.{Shaped};
 ghost use Rattle.rows.specs.Rows.{Scratch};

@@ -1,4 +1,6 @@
 // The check of a store of any kind, and whether words have room for one. Words are only read.
+#![tactic(auto)]
+
 ghost use Rattle.std.specs.Prelude.{◌≡◌, suc, ◌+◌, ◌*◌, ◌≤◌, length};
 ghost use Rattle.model.specs.Lists.{same};
 ghost use Rattle.model.specs.Table.{Shaped};

@@ -1,6 +1,8 @@
 // The bench program: starts a store of 1,024 cells, inserts rules 10 and 20, reads a classic capture from standard input and writes what the lookup says of each of its packets.
 //
 // Only reading, printing and the loop are here. What the store holds is said by `rules`, what the bytes of a capture are is said by `capture`, what was read of a record and its line by `listing`, and what a packet gets by `lookup`. Memory is the same for a capture of any size.
+#![tactic(auto)]
+
 ghost use Rattle.std.specs.Prelude.{◌≡◌, ◌≤◌, length};
 ghost use Rattle.bench.specs.Room.{staying};
 ghost use Rattle.listing.specs.Records.{length_of};

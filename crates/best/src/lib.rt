@@ -1,4 +1,6 @@
 // The most locations that a walk looks at, and the first record of values whose walk looks at so many, over a store's cells, whatever they hold. The words are the part of a store from its two links on. They are only read; where they hold a tree, each cell is looked at once.
+#![tactic(auto)]
+
 ghost use Rattle.std.specs.Prelude.{◌≡◌, ◌+◌, ◌*◌, ◌%◌, ◌≤◌, ◌<◌, length, get_or};
 ghost use Rattle.search.specs.Links.{tree_in};
 ghost use Rattle.best.specs.Best.{Climbed, ask_of};

@@ -1,4 +1,6 @@
 // The blocks of a tree: what they are and the laws of them, and for the code that writes or compares them how many there are and what a level says of the level below it. A block is 16 words, 8 ends and then 8 links.
+#![tactic(auto)]
+
 ghost use Rattle.std.specs.Prelude.{◌≡◌, cond, ◌+◌, ◌*◌, ◌≤◌, ◌<◌, ltb, length, get_or};
 ghost use Rattle.blocks.specs.Blocks.{top_end, depth, blocks_up, links_to};
 

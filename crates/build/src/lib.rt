@@ -1,4 +1,6 @@
 // The tree of a set of rules, built in the free cells of a store, chain by chain. The words from the rows on are lent, and base, the word where the part with the links and the cells begins: what stands before it are the rules, which stay. The number of cells c stands elsewhere and is passed beside the words; as a link it says "no cell".
+#![tactic(auto)]
+
 ghost use Rattle.std.specs.Prelude.{◌≡◌, ◌++◌, ◌+◌, ◌*◌, ◌≤◌, ◌<◌, length, take, drop};
 ghost use Rattle.model.specs.Rules.{ends as ends_of};
 ghost use Rattle.rows.specs.Rows.{field_at, tree_at, first_of};

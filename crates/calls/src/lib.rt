@@ -1,4 +1,6 @@
 // The calls of the library on the case of a line: what is given as numbers and bytes, and what is answered as sixteen numbers, with zeros behind the last.
+#![tactic(auto)]
+
 ghost use Rattle.std.specs.Prelude.{◌≡◌, ◌≤◌, length};
 
 use header::Header;

@@ -1,4 +1,6 @@
 // A classic capture file: how it is opened, and what the next record is.
+#![tactic(auto)]
+
 ghost use Rattle.std.specs.Prelude.{◌≡◌, [], ◌∷◌, ◌<◌, ◌≤◌, length, leb};
 ghost use Rattle.capture.specs.Pcap.{starts_with, by_magic, opened, next_of};
 

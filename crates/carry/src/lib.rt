@@ -1,4 +1,6 @@
 // Carries the table of a store into lent words, as a store of another kind or of the same, with a number of cells of its own. The two kinds have the same fields and the same width of a row, and the new one takes as many rules or more. The promise is one equation for the answer and for every lent word, whatever the words hold. The old store is only read, and no word is written before nothing can be refused any more. The sets and the ends of the rules are written into scratch that is lent.
+#![tactic(auto)]
+
 ghost use Rattle.std.specs.Prelude.{◌≡◌, suc, ◌≤◌, length};
 ghost use Rattle.model.specs.Table.{Shaped};
 ghost use Rattle.rows.specs.Rows.{Scratch};

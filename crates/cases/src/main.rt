@@ -1,5 +1,7 @@
 // Runs cases through the compiled calls. A line of the standard input is a case: a call, what it is given, '=', and what it has to answer. `stdin` says how one is written.
 // A line is written for each case that answers something else, and at last how many cases there were, and how many of them differ.
+#![tactic(auto)]
+
 ghost use Rattle.std.specs.Prelude.{◌≡◌, true, ◌≤◌, length};
 
 use libc::{STDIN_FILENO, STDOUT_FILENO};

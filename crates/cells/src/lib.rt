@@ -1,4 +1,6 @@
 // The tree in the cells of a store, in its part from the two links on: word 0 of that is the first cell of the free chain, word 1 is the cell where a walk begins, and cell k is the eight words from 2 + 8 k on. This crate says what stands there for a tree, lays the runs of one, and drops one; the crate build builds one. The functions that have a base are lent the words from the rows on, and the part begins at base: what stands before it are the rules, which stay. The others are lent the part alone. The number of cells c stands elsewhere and is passed beside the words; as a link it says "no cell".
+#![tactic(auto)]
+
 ghost use Rattle.std.specs.Prelude.{◌≡◌, [], ◌∷◌, ◌+◌, ◌*◌, ◌≤◌, ◌<◌, ◌-◌, length, set, drop};
 ghost use Rattle.model.specs.Rules.{stop};
 ghost use Rattle.cells.specs.Text.{at, cell_word, below_at, only_down, part};

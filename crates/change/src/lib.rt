@@ -1,4 +1,6 @@
 // Edits of a store of any kind: insert, delete. Every promise is one equation for the answer and for every lent word, whatever the words hold. No word is written before nothing can be refused any more. The sets and the ends of the rules are written into scratch that is lent.
+#![tactic(auto)]
+
 ghost use Rattle.std.specs.Prelude.{◌≡◌, suc, ◌+◌, ◌*◌, length};
 ghost use Rattle.model.specs.Table.{Shaped};
 ghost use Rattle.rows.specs.Rows.{Scratch};

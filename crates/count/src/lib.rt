@@ -1,4 +1,6 @@
 // How many locations the tree of some rules has, counted before a cell is taken. This crate keeps no words and changes none but the scratch that it is lent.
+#![tactic(auto)]
+
 ghost use Rattle.std.specs.Prelude.{◌≡◌, ◌++◌, ◌+◌, ◌*◌, ◌≤◌, ◌<◌, min, length, take};
 ghost use Rattle.model.specs.Rules.{cells};
 ghost use Rattle.rows.specs.Rows.{tree_at, Scratch};

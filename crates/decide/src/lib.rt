@@ -1,4 +1,6 @@
 // What an edit of a table decides, before a word is written: the answer of an insert and of a delete, and the place where the rule goes or stands. The rows are only read, in a store of any kind.
+#![tactic(auto)]
+
 ghost use Rattle.std.specs.Prelude.{◌≡◌, ◌∷◌, ◌++◌, suc, ◌+◌, ◌*◌, ◌≤◌, ◌<◌, leb, length, get_or, take, drop};
 ghost use Rattle.model.specs.Rules.{cells};
 ghost use Rattle.model.specs.Table.{insert_answer, delete_answer};

@@ -1,4 +1,6 @@
 // The most blocks that a lookup over an image reads, and the first record of values whose lookup reads so many, by the rules of its table. This crate keeps no words and changes none but the record and the scratch that it is lent.
+#![tactic(auto)]
+
 ghost use Rattle.std.specs.Prelude.{◌≡◌, ◌++◌, ◌+◌, ◌*◌, ◌≤◌, ◌<◌, length, take};
 ghost use Rattle.rows.specs.Rows.{tree_at, Scratch};
 ghost use Rattle.blocks.specs.Blocks.{levels as levels_of};

@@ -46,8 +46,8 @@ topped_rename h (more k n s r) = more k n (topped_rename h s) (topped_rename h r
 topped_weigh : (n : ℕ) {ts : List ℕ} {l : ℕ} {t : Tree ℕ} → Topped ts l t → Topped ts l (weigh n t)
 unfolding weigh
 topped_weigh n leaf = leaf
-topped_weigh n (last k s) = last k (topped_weigh _ s)
-topped_weigh n (more k m s r) = more k m (topped_weigh _ s) (topped_weigh n r)
+topped_weigh n (last {u = u} k s) = last k (topped_weigh (n + height u) s)
+topped_weigh n (more {u = u} k m s r) = more k m (topped_weigh (n + height u) s) (topped_weigh n r)
 
 -- a walk of values that fit comes to the blocks that it reads
 score_reads : (n : ℕ) {ts : List ℕ} {l : ℕ} {t : Tree ℕ} → Topped ts l t → (vs : List ℕ) → Fits ts vs → score 0 itself (weigh n t) vs ≡ n + reads_below t vs

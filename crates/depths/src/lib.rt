@@ -1,4 +1,6 @@
 // The worst packet of an image: the most blocks that any record of values within the tops reads, and the least record that reads so many. Words are only read. The image check is run once, and then the rules that the image holds are gone through once.
+#![tactic(auto)]
+
 ghost use Rattle.std.specs.Prelude.{◌≡◌, suc, ◌≤◌, length};
 ghost use Rattle.model.specs.Table.{Shaped};
 ghost use Rattle.model.specs.Ipv4.{kind_in};

@@ -1,4 +1,6 @@
 // The image of a store of any kind: how many words it takes, freezing a store into it, and the check of an image. A store is only read.
+#![tactic(auto)]
+
 ghost use Rattle.std.specs.Prelude.{◌≡◌, true, [], ◌∷◌, ◌++◌, suc, ◌+◌, ◌≤◌, ◌<◌, length, drop};
 ghost use Rattle.model.specs.Table.{Shaped};
 ghost use Rattle.model.specs.Ipv4.{kind_in};

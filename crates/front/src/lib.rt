@@ -1,4 +1,6 @@
 // What stands before the two links of a store of any kind, its head and its rows: written for a fresh store and for a table that is carried into it, and edited where it stands.
+#![tactic(auto)]
+
 ghost use Rattle.std.specs.Prelude.{◌≡◌, true, [], ◌∷◌, ℕ, ◌+◌, ◌*◌, ◌-◌, ◌≤◌, ◌<◌, length, get_or, replicate};
 ghost use Rattle.model.specs.Table.{Kind, Shaped, Table, row_words, within, stands, with_rule, without};
 ghost use Rattle.table.specs.Rows.{kind_of, rows_text, rule_in, ahead};

@@ -1,5 +1,7 @@
 // The packet reader: the bytes of a packet, from its IPv4 header on, to the six values that rules
 // speak of. What is right stands in specs/Header.antt, and every slice has an answer.
+#![tactic(auto)]
+
 ghost use Rattle.std.specs.Prelude.{◌≡◌, cond, ◌+◌, ◌<◌, ◌≤◌, length};
 ghost use Rattle.header.specs.Header.{
   header_length,

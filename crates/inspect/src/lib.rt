@@ -1,4 +1,6 @@
 // The check of an image of any kind: whether all its words are those of the image of a table that a store can hold. Words are only read.
+#![tactic(auto)]
+
 ghost use Rattle.std.specs.Prelude.{◌≡◌, suc, ◌+◌, ◌≤◌, leb, length};
 ghost use Rattle.model.specs.Lists.{same};
 ghost use Rattle.model.specs.Rules.{cells};

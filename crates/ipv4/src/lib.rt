@@ -1,4 +1,6 @@
 // The two kinds of store of the IPv4 gateway, and a rule as its caller has it: six low and six high ends by field. Here alone the code has the numbers of the layout and the tops; the six fields stand by name also where a packet's values are taken one by one.
+#![tactic(auto)]
+
 ghost use Rattle.std.specs.Prelude.{◌≡◌, [], ◌∷◌, length};
 ghost use Rattle.model.specs.Table.{packet_right};
 ghost use Rattle.model.specs.Ipv4.{ipv4, large, is_large};

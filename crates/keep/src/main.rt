@@ -1,6 +1,8 @@
 // The program `keep`: reads a classic capture from standard input and writes the capture of its records whose lookup in the bench table gave the action that its argument names.
 //
 // Only reading, writing and the loop are here. What the store holds is said by `rules`, what the bytes of a capture are by `capture` and `writing`, what was read of a record by `listing`, and what is asked for and what is kept by `keeping`. Memory is the same for a capture of any size.
+#![tactic(auto)]
+
 ghost use Rattle.std.specs.Prelude.{◌≡◌, ◌≤◌, length};
 ghost use Rattle.listing.specs.Records.{length_of};
 

@@ -1,6 +1,8 @@
 // What the program `keep` decides and writes: the action that its argument names, and the record of a packet whose lookup gave that action.
 //
 // A promise can't speak of what reading gives. So the program reads, hands over what it got, and does what is said here.
+#![tactic(auto)]
+
 ghost use Rattle.std.specs.Prelude.{◌≡◌, ◌+◌, ◌-◌, ◌*◌, ◌≤◌, length, take};
 ghost use Rattle.keeping.specs.Keep.{asked_in, gives, kept_bytes};
 

@@ -1,4 +1,6 @@
 // The blocks of the tree that a store's cells give by their links: counted, and written into words that have room for them. The cells are the part of a store from its two links on. They are only read, each on its way once or twice.
+#![tactic(auto)]
+
 ghost use Rattle.std.specs.Prelude.{◌≡◌, cond, ◌++◌, ◌+◌, ◌-◌, ◌*◌, ◌/◌, ◌≤◌, ◌<◌, eqb, length, get_or, drop};
 ghost use Rattle.search.specs.Links.{tree_in};
 ghost use Rattle.blocks.specs.Blocks.{top_end, down_mark, depth, blocks_up, parts, blocks, blocks_text};

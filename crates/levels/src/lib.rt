@@ -1,4 +1,6 @@
 // Whether the ends of a chain, their links and the levels above them stand where they should: the parts of a comparison of words with the blocks of a tree.
+#![tactic(auto)]
+
 ghost use Rattle.std.specs.Prelude.{◌≡◌, ◌&&◌, ◌||◌, ◌+◌, ◌*◌, ◌/◌, ◌≤◌, ltb, eqb, length, get_or};
 ghost use Rattle.rows.specs.Rows.{tree_at};
 ghost use Rattle.blocks.specs.Blocks.{down_mark, depth, parts, blocks_up};

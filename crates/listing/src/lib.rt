@@ -1,6 +1,8 @@
 // What the bench program decides and writes: what the bytes that it could read of a record are, and the line of a record.
 //
 // A promise can't speak of what reading gives. So the program reads, hands over what it got, and does what is said here.
+#![tactic(auto)]
+
 ghost use Rattle.std.specs.Prelude.{◌≡◌, ◌++◌, ◌+◌, ◌≤◌, length, take};
 ghost use Rattle.capture.specs.declared.Next.TheVariants.{Data};
 ghost use Rattle.capture.specs.Pcap.{next_of};

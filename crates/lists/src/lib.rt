@@ -1,4 +1,6 @@
 // A list of edits of a store of any kind in its two halves: what it answers, while the words are only read, and its edits done in the front of the store, its head and its rows, one after the other. The sets and the ends of the rules are written into scratch that is lent.
+#![tactic(auto)]
+
 ghost use Rattle.std.specs.Prelude.{◌≡◌, List, ◌∷◌, ℕ, suc, ◌+◌, ◌*◌, ◌≤◌, length};
 ghost use Rattle.model.specs.Table.{Shaped, Table};
 ghost use Rattle.rows.specs.Rows.{Scratch};

@@ -1,4 +1,6 @@
 // Rules that never win: whether a rule is dead, and for a live one the least record of values for which a lookup names it. Words are only read, and the tree is gone through at most once.
+#![tactic(auto)]
+
 ghost use Rattle.std.specs.Prelude.{◌≡◌, suc, length};
 ghost use Rattle.model.specs.Table.{Shaped};
 ghost use Rattle.model.specs.Ipv4.{kind_in};

@@ -1,4 +1,6 @@
 // The rows of a table, written: those of a fresh one, a row put in or taken out where they stand, and words copied from one slice to another.
+#![tactic(auto)]
+
 ghost use Rattle.std.specs.Prelude.{◌≡◌, [], ◌+◌, ◌-◌, ◌≤◌, ◌<◌, length};
 ghost use Rattle.model.specs.Lists.{up_to};
 ghost use Rattle.model.specs.Table.{row_words};

@@ -1,4 +1,6 @@
 // The tree of a table planted in the cells of a store of any kind; and the start of a store, whose promise is one equation for the answer and for every lent word, whatever the words hold. No word is written before nothing can be refused any more. The sets and the ends of the rules are written into scratch that is lent.
+#![tactic(auto)]
+
 ghost use Rattle.std.specs.Prelude.{◌≡◌, suc, ◌≤◌, length};
 ghost use Rattle.model.specs.Rules.{cells as cells_of_tree};
 ghost use Rattle.model.specs.Table.{Shaped};

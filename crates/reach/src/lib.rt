@@ -1,4 +1,6 @@
 // The first record of values whose walk finds a place, over a store's cells, whatever they hold. The words are the part of a store from its two links on. They are only read; where they hold a tree, each cell is looked at once at most.
+#![tactic(auto)]
+
 ghost use Rattle.std.specs.Prelude.{◌≡◌, ◌+◌, ◌*◌, ◌%◌, ◌≤◌, length, get_or};
 ghost use Rattle.reach.specs.Reach.{Reached};
 

@@ -1,6 +1,8 @@
 // The calls that read a store and write nothing, for the two kinds that there are: the check, read by number and by place, and the cells in use. Word 2 of a store names its kind. Every promise is one equation for the answer and what comes with it, whatever the words hold.
 //
 // A call has a branch for each kind, with the scratch of that kind: setting it to zeros takes the time that the kind needs. The compiled call's frame has room for the larger one.
+#![tactic(auto)]
+
 ghost use Rattle.std.specs.Prelude.{◌≡◌, ◌≤◌, length};
 ghost use Rattle.model.specs.Table.{front, read_rule, place_rule};
 ghost use Rattle.model.specs.Ipv4.{large, kind_in};

@@ -1,4 +1,6 @@
 // A list of edits of a store of any kind, all or none: the list is decided while the words are only read, and then the rows are edited one edit after the other, and the tree is dropped and built once. The promise is one equation for the answer and for every lent word, whatever the words hold. The sets and the ends of the rules are written into scratch that is lent.
+#![tactic(auto)]
+
 ghost use Rattle.std.specs.Prelude.{◌≡◌, suc, ◌+◌, ◌*◌, ◌≤◌, length};
 ghost use Rattle.model.specs.Table.{Shaped};
 ghost use Rattle.rows.specs.Rows.{Scratch};

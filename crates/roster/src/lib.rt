@@ -1,4 +1,6 @@
 // What one edit decides in a table that a set names, before a word is written. The set says where the table's rows begin, in the rows of a store or in words that are lent behind them: its rules by rising number, and then the default. Where the edit is accepted the set names the edited table. The rows are only read.
+#![tactic(auto)]
+
 ghost use Rattle.std.specs.Prelude.{◌≡◌, true, ◌++◌, ◌+◌, ◌-◌, ◌≤◌, ◌<◌, leb, length, take, drop};
 ghost use Rattle.model.specs.Rules.{cells};
 ghost use Rattle.model.specs.Table.{Kind, Table, stands, with_rule, without, insert_answer, delete_answer};

@@ -1,4 +1,6 @@
 // The bench table: a store of 1,024 cells with the rules 10 and 20, for the programs that look packets up in it.
+#![tactic(auto)]
+
 ghost use Rattle.std.specs.Prelude.{◌≡◌};
 ghost use Rattle.model.specs.Bench.{rule10, rule20};
 ghost use Rattle.ipv4.specs.Rule.{given};

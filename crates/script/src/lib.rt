@@ -1,5 +1,7 @@
 // A line of cases as numbers: `CALL x4500.. GIVEN .. = WANTED ..`, where each part but the call may be left out.
 // A place is an index into the line, and every function answers a place within it.
+#![tactic(auto)]
+
 ghost use Rattle.std.specs.Prelude.{◌≡◌, ◌≤◌, ◌<◌, length};
 
 // A case: the code of its call, its bytes, the numbers given and those wanted, with zeros behind them, and how many bytes and numbers are given. Where something else than a number stands, or too many, 17 are given, and the last one wanted is 4,294,967,295.

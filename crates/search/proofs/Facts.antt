@@ -15,7 +15,7 @@ use Rattle.model.specs.Table.{Kind, Rule, Table, number_of, every_rule, tree_of,
 use Rattle.model.proofs.Tests.{by_test, never}
 use Rattle.model.proofs.Limits.{distinct}
 use Rattle.model.proofs.Decide.{finds, reads_right, winner_in}
-use Rattle.search.specs.Search.{Less, score, most, first, wins, nothing, dead_of, first_won, most_reads, first_worst}
+use Rattle.search.specs.Search.{Less, score, most, wins, nothing, dead_of, first_won, most_reads, first_worst}
 use Rattle.search.specs.Facts.{InTops, Never, Least, Means, Won, Worst, Searches}
 use Rattle.search.proofs.First.{from_zero, score_most, first_fits, first_most, lesser}
 use Rattle.search.proofs.Topped.{topped_of, fits_in, tops_right}

@@ -1,4 +1,6 @@
 // Searches of a tree for the least record of values whose walk gathers the most, over any number of fields. Definitions and laws, and for the code of the searches two ways between a word and a wider number.
+#![tactic(auto)]
+
 ghost use Rattle.std.specs.Prelude.{◌≡◌, ◌%◌, ◌≤◌};
 
 // A number as a word: what is above that is cut.

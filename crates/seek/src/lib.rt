@@ -1,4 +1,6 @@
 // What is read of a store of any kind that passes the check: where the row of a number begins, or of a place, and the cells in use. Words are only read.
+#![tactic(auto)]
+
 ghost use Rattle.std.specs.Prelude.{◌≡◌, suc, length};
 ghost use Rattle.model.specs.Table.{Shaped, read_rule, place_rule};
 ghost use Rattle.rows.specs.Rows.{Scratch};

@@ -1,4 +1,6 @@
 // What a list of edits decides, before a word is written: each edit of the table that those before it leave. The rows of the store are only read. The table on the way is a set (`roster`) that says where its rows begin, in the rows of the store or among the edits, which are lent behind them.
+#![tactic(auto)]
+
 ghost use Rattle.std.specs.Prelude.{◌≡◌, ◌++◌, suc, ◌+◌, ◌≤◌, length};
 ghost use Rattle.model.specs.Table.{Table};
 ghost use Rattle.rows.specs.Rows.{Scratch};

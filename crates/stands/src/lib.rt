@@ -1,4 +1,6 @@
 // Whether a cell, a run of cells or the free chain stands where it should: the parts of a comparison of words with the text of a tree.
+#![tactic(auto)]
+
 ghost use Rattle.std.specs.Prelude.{◌≡◌, [], ◌∷◌, ◌+◌, ◌-◌, ◌*◌, ◌≤◌, ◌<◌, length, get_or};
 ghost use Rattle.model.specs.Rules.{ends as ends_of};
 ghost use Rattle.rows.specs.Rows.{field_at, first_of, tree_at};

@@ -1,6 +1,8 @@
 // The calls that change a store, for the two kinds that there are: start, insert, delete, a list of edits, and carry. Word 2 of a store names its kind, and what is started is large. Every promise is one equation for the answer and for every lent word, whatever the words hold.
 //
 // A call has a branch for each kind, with the scratch of that kind: setting it to zeros takes the time that the kind needs. The compiled call's frame has room for the larger one.
+#![tactic(auto)]
+
 ghost use Rattle.std.specs.Prelude.{◌≡◌};
 ghost use Rattle.model.specs.Ipv4.{large, kind_in};
 ghost use Rattle.ipv4.specs.Rule.{given};

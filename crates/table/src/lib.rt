@@ -1,4 +1,6 @@
 // The table of a store in its rows: as many and as wide as its kind says, the default's first, then the rules by rising number, then rows of zeros. Read, held to the limits, and searched.
+#![tactic(auto)]
+
 ghost use Rattle.std.specs.Prelude.{◌≡◌, true, ◌&&◌, suc, ◌+◌, ◌*◌, ◌%◌, ◌≤◌, ◌<◌, leb, eqb, length, get_or, take};
 ghost use Rattle.model.specs.Lists.{same};
 ghost use Rattle.model.specs.Rules.{ranges_right};

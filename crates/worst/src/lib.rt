@@ -1,4 +1,6 @@
 // The worst packet of a table: the most reads that any record of values within the tops takes, and the least record that takes them. Words are only read, the check is run once, and then the tree is gone through once.
+#![tactic(auto)]
+
 ghost use Rattle.std.specs.Prelude.{◌≡◌, suc, length};
 ghost use Rattle.model.specs.Table.{Shaped};
 ghost use Rattle.model.specs.Ipv4.{kind_in};

@@ -7,7 +7,6 @@ use lib.ListN.{length}
 use Rattle.table.specs.Rows.{kind_of}
 use Rattle.layout.specs.Store.{size}
 use native.Mathlib.Omega.{arith}
-use borrow.Author.Rules.{rules}
 use borrow.Author.Tests.{lt-leb, le-leb}
 use Rattle.audit.proofs.room_for.Goals as goal
 

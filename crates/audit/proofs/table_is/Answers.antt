@@ -2,7 +2,6 @@
 -- Assumes nothing.
 use mathlib.Core.Bool.{not}
 use mathlib.Core.Path.{ap}
-use borrow.Author.Rules.{rules}
 use Rattle.layout.proofs.Parts.{first_fails, second_fails, third_says}
 use Rattle.audit.proofs.table_is.Goals as goal
 

@@ -1,6 +1,5 @@
 -- `audit::tree_is` meets its contract: what is compared is the tree of the places that are written.
 -- Assumes nothing.
-use borrow.Author.Rules.{rules}
 use native.Mathlib.Omega.{arith}
 use Prim.Native.Nat.{◌+◌}
 use Rattle.layout.proofs.Parts.{scratch_few}

@@ -1,12 +1,12 @@
 -- `best::from_cell` meets its contract. The invariant: what is found so far and the rest of the chain say what the whole says. The measures are the fields that are left, and the cells that may still be read.
 -- Assumes nothing.
-use Prim.Native.Nat.{ℕ, ◌+◌, ◌-◌, ◌<◌}
+use Prim.Native.Nat.{◌+◌, ◌-◌, ◌<◌}
 use mathlib.Core.Path.{sym, ◌∙◌}
-use mathlib.Core.Logic.{inl, inr, ⊎_elim}
+use mathlib.Core.Logic.{inl, inr}
 use native.Mathlib.Omega.{arith}
 use borrow.Author.Rules.{rules}
 use Rattle.search.proofs.Written.{some}
-use Rattle.best.proofs.Steps.{Going, leaf_met, leaf_not, going_start, going_better, going_worse, going_end, ask_some, got_small}
+use Rattle.best.proofs.Steps.{leaf_met, leaf_not, going_start, going_better, going_worse, going_end, ask_some, got_small}
 use Rattle.best.proofs.+from_cell.Goals as goal
 use Rattle.best.proofs.+from_cell.Goals.{then-under-got, else-under-got}
 

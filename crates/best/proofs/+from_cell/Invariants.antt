@@ -1,12 +1,7 @@
 -- `best::from_cell` meets its contract. The invariant: what is found so far and the rest of the chain say what the whole says. The measures are the fields that are left, and the cells that may still be read.
 -- Assumes nothing.
-use Prim.Native.Nat.{ℕ, ◌+◌, ◌-◌, ◌<◌}
-use mathlib.Core.Path.{sym, ◌∙◌}
-use mathlib.Core.Logic.{inl, inr, ⊎_elim}
-use native.Mathlib.Omega.{arith}
-use borrow.Author.Rules.{rules}
-use Rattle.search.proofs.Written.{some}
-use Rattle.best.proofs.Steps.{Going, leaf_met, leaf_not, going_start, going_better, going_worse, going_end, ask_some, got_small}
+use Prim.Native.Nat.{◌-◌}
+use Rattle.best.proofs.Steps.{Going}
 use Rattle.best.proofs.+from_cell.Given as goal
 
 abbrev pub invariant-loop-n : goal.invariant-loop-n

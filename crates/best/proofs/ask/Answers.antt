@@ -1,6 +1,5 @@
 -- `best::ask` meets its contract.
 -- Assumes nothing.
-use borrow.Author.Rules.{rules}
 use borrow.Author.Tests.{lt-ltb, le-ltb}
 use Rattle.best.proofs.ask.Goals as goal
 

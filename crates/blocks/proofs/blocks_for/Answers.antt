@@ -1,7 +1,7 @@
 -- `blocks::blocks_for` meets its contract. The invariant: the levels passed are counted. Assumes nothing.
 use native.Mathlib.Omega.{arith}
 use borrow.Author.Rules.{rules}
-use Rattle.blocks.proofs.Writing.{Counts, counts_start, counts_on, counts_done}
+use Rattle.blocks.proofs.Writing.{counts_start, counts_on, counts_done}
 use Rattle.blocks.proofs.blocks_for.Goals as goal
 
 pub loop-left-init : goal.loop-left-init

@@ -1,7 +1,5 @@
 -- `blocks::blocks_for` meets its contract. The invariant: the levels passed are counted. Assumes nothing.
-use native.Mathlib.Omega.{arith}
-use borrow.Author.Rules.{rules}
-use Rattle.blocks.proofs.Writing.{Counts, counts_start, counts_on, counts_done}
+use Rattle.blocks.proofs.Writing.{Counts}
 use Rattle.blocks.proofs.blocks_for.Given as goal
 
 abbrev pub invariant-loop-left : goal.invariant-loop-left

@@ -1,6 +1,5 @@
 -- `blocks::last_end` meets its contract. Assumes nothing.
 use borrow.Author.Tests.{lt-ltb, le-ltb}
-use borrow.Author.Rules.{rules}
 use Rattle.blocks.proofs.last_end.Goals as goal
 
 -- returns

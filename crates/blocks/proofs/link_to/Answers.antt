@@ -1,6 +1,5 @@
 -- `blocks::link_to` meets its contract. Assumes nothing.
 use borrow.Author.Tests.{lt-ltb, le-ltb}
-use borrow.Author.Rules.{rules}
 use Rattle.blocks.proofs.link_to.Goals as goal
 
 -- returns

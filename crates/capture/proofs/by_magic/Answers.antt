@@ -1,7 +1,6 @@
 -- `capture::by_magic` meets its contract: the magic bytes are compared as they stand, and then from the last to the first.
 -- Assumes nothing.
 use mathlib.Core.Path.{◌∙◌, sym}
-use borrow.Author.Rules.{rules}
 use Rattle.capture.specs.Cases.{forward, backward, neither}
 use Rattle.capture.proofs.by_magic.Goals as goal
 

@@ -2,7 +2,6 @@
 -- Assumes nothing.
 use mathlib.Core.Path.{◌≡◌, ◌∙◌, sym}
 use native.Mathlib.Omega.{arith}
-use borrow.Author.Rules.{rules}
 use Rattle.capture.specs.declared.Opened.TheVariants.{Capture}
 use Rattle.capture.specs.Pcap.{by_magic}
 use Rattle.capture.specs.Cases.{few, no_magic, major, minor, link, taken}

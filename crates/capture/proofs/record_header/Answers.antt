@@ -1,7 +1,6 @@
 -- `capture::record_header` meets its contract: each way out is a case of the definition.
 -- Assumes nothing.
 use native.Mathlib.Omega.{arith}
-use borrow.Author.Rules.{rules}
 use Rattle.capture.specs.Cases.{edge, cut, long, whole}
 use Rattle.capture.proofs.record_header.Goals as goal
 

@@ -1,7 +1,6 @@
 -- `capture::starts` meets its contract: each byte is tested as the definition tests it.
 -- Assumes nothing.
 use mathlib.Core.Bool.{and-true}
-use borrow.Author.Rules.{rules}
 use borrow.Author.Tests.{eq-eqb, ne_eqb}
 use Rattle.capture.proofs.starts.Goals as goal
 

@@ -1,6 +1,5 @@
 -- `carry::decide_carry` meets its contract: the check of the old store, the room in the words, and the cells that the table takes.
 -- Assumes nothing.
-use borrow.Author.Tests.{not-true, not-false}
 use mathlib.Core.Path.{sym, ◌∙◌}
 use native.Mathlib.Omega.{arith}
 use Rattle.table.specs.Rows.{kind_of}

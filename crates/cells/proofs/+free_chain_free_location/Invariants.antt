@@ -1,15 +1,14 @@
 -- `cells::free_chain` and `cells::free_location` leave a chain, and what is below a location, as free cells. They call each other, and the number of fields left falls: the measures are twice that number, and one more for a chain. The loop's invariant is `Going`; its measure is the steps that are left of the walk up the chain.
 -- Assumes nothing.
-use Prim.Native.Nat.{ℕ, ◌<◌, ◌+◌, ◌*◌}
-use mathlib.Core.Path.{◌≡◌, refl, sym, ◌∙◌}
+use Prim.Native.Nat.{ℕ, ◌+◌, ◌*◌}
+use mathlib.Core.Path.{◌≡◌}
 use mathlib.Core.List.{List}
-use native.Mathlib.Omega.{arith}
 use Rattle.model.specs.Rules.{Tree}
 use Rattle.cells.specs.Text.{width, under}
 use Rattle.cells.specs.Planted.{Deep}
 use Rattle.cells.specs.declared.Below.{Below}
 use Rattle.cells.specs.States.{TreeHeld}
-use Rattle.cells.proofs.Free.{Going, Opened, opens, open_lt, open_held, freed, freed_room, freed_less, left_of, going, Ran, rans, ran_all, free_none}
+use Rattle.cells.proofs.Free.{Going, left_of}
 use Rattle.cells.proofs.+free_chain_free_location.Given as goal
 
 abbrev pub invariant-free_chain-loop-k : goal.invariant-free_chain-loop-k

@@ -1,5 +1,4 @@
 -- `cells::below_of` answers the two words. Assumes nothing.
-use borrow.Author.Rules.{rules}
 use Rattle.cells.proofs.below_of.Goals as goal
 
 pub returns : goal.returns

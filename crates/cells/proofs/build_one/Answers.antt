@@ -1,11 +1,10 @@
 -- `cells::build_one` leaves a run of one end, in the first free cell of the part.
 -- Assumes nothing.
-use Prim.Native.Nat.{ℕ, ◌-◌, ◌<◌}
+use Prim.Native.Nat.{◌-◌, ◌<◌}
 use mathlib.Core.Path.{refl}
-use mathlib.Core.List.{List, [], ◌∷◌}
+use mathlib.Core.List.{[], ◌∷◌}
 use native.Mathlib.Omega.{arith}
 use lib.ListN.{length, length-set}
-use borrow.Author.Rules.{rules}
 use borrow.Rule.Slice.PartMut.{mid_of}
 use Rattle.cells.specs.Text.{at, only_down}
 use Rattle.cells.specs.States.{first_free}

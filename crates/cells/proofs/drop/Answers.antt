@@ -1,6 +1,5 @@
 -- `cells::drop` leaves the part of a store with no tree. Assumes nothing.
 use native.Mathlib.Omega.{arith}
-use borrow.Author.Rules.{rules}
 use Rattle.cells.proofs.Part.{part_held, part_dropped}
 use Rattle.cells.proofs.drop.Goals as goal
 

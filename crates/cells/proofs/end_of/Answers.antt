@@ -1,5 +1,4 @@
 -- `cells::end_of` answers the end of a cell of the part. Assumes nothing.
-use borrow.Author.Rules.{rules}
 use Rattle.cells.proofs.Lent.{end_at_lem}
 use Rattle.cells.proofs.end_of.Goals as goal
 

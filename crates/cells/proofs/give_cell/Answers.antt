@@ -1,5 +1,4 @@
 -- `cells::give_cell` leaves a cleared cell in front of the free chain. Assumes nothing.
-use borrow.Author.Rules.{rules}
 use Rattle.cells.proofs.give_cell.Goals as goal
 
 pub returns : goal.returns

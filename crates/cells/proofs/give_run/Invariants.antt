@@ -1,12 +1,10 @@
 -- `cells::give_run` leaves all cells of the run free. The loop's invariant: what is left of the run stands in front of the free cells, and together they are as many as before. The measure is the first free cell, which comes down.
 -- Assumes nothing.
 use Prim.Native.Nat.{ℕ, ◌+◌}
-use mathlib.Core.Path.{refl, sym, ◌∙◌}
 use mathlib.Core.List.{List}
-use native.Mathlib.Omega.{arith}
 use Rattle.cells.specs.Text.{Run, len}
 use Rattle.cells.specs.States.{first_free, Rows}
-use Rattle.cells.proofs.Runs.{Giving, Last, lasts, back_room, back_less, given, all_given}
+use Rattle.cells.proofs.Runs.{Giving}
 use Rattle.cells.proofs.give_run.Given as goal
 
 abbrev pub invariant-loop-k : goal.invariant-loop-k

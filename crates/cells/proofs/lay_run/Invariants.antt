@@ -1,14 +1,11 @@
 -- `cells::lay_run` leaves a run of the ends. The loop's invariant: the run of the ends from the `i`-th on stands. The measure is `i`.
 -- Assumes nothing.
 use Prim.Native.Nat.{ℕ, ◌+◌}
-use mathlib.Core.Path.{refl, sym, ◌∙◌}
 use mathlib.Core.List.{List}
-use native.Mathlib.Omega.{arith}
-use lib.ListN.{length, length-set}
-use borrow.Author.Rules.{rules}
+use lib.ListN.{length}
 use Rattle.cells.specs.Text.{frees}
 use Rattle.cells.specs.States.{State}
-use Rattle.cells.proofs.Lay.{Laying, laying, lay_room, lay_built, laid}
+use Rattle.cells.proofs.Lay.{Laying}
 use Rattle.cells.proofs.lay_run.Given as goal
 
 abbrev pub invariant-loop-i : goal.invariant-loop-i

@@ -1,7 +1,6 @@
 -- `cells::write_below` leaves two words of the part written, and the rules. Assumes nothing.
 use native.Mathlib.Omega.{arith}
 use lib.ListN.{length-set}
-use borrow.Author.Rules.{rules}
 use Rattle.cells.proofs.Lent.{hangs_at}
 use Rattle.cells.proofs.write_below.Goals as goal
 

@@ -2,7 +2,6 @@
 use native.Mathlib.Nat.{add-zero}
 use native.Mathlib.Omega.{arith}
 use lib.ListN.{length-set}
-use borrow.Author.Rules.{rules}
 use Rattle.cells.proofs.write_cell.Goals as goal
 
 pub bounds-words-i-2 : goal.bounds-words-i-2

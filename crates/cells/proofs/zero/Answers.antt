@@ -1,10 +1,8 @@
 -- `cells::zero` leaves zeros. The loop's invariant: the first `i` words are zeros. Assumes nothing.
-use Prim.Native.Nat.{◌≤◌, ◌-◌}
 use mathlib.Core.Path.{◌≡◌, refl, sym, ap, ◌∙◌}
 use native.Mathlib.Omega.{arith}
-use lib.ListN.{length, take, length-set}
+use lib.ListN.{length, length-set}
 use lib.Seq.{take_all}
-use borrow.Author.Rules.{rules}
 use Rattle.cells.specs.States.{zeros}
 use Rattle.cells.proofs.Blank.{zero_step}
 use Rattle.cells.proofs.zero.Goals as goal

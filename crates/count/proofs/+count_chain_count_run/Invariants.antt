@@ -1,12 +1,8 @@
 -- `count::count_chain` and `count::count_run` meet their contracts. They call each other, and the number of fields left falls: the measures are twice that number, and one more for a chain. The loop's invariant is `Going`, and its measure the ends that are left.
 -- Assumes nothing.
-use Prim.Native.Nat.{ℕ, ◌<◌, ◌+◌, ◌*◌}
-use mathlib.Core.Path.{sym, ◌∙◌}
+use Prim.Native.Nat.{◌+◌, ◌*◌}
 use mathlib.Core.List.{◌++◌}
-use native.Mathlib.Omega.{arith}
-use borrow.Author.Rules.{rules}
-use Rattle.rows.proofs.Room.{set_fits, set_long, set_ends_fit, scratch_on}
-use Rattle.count.proofs.Counted.{Going, counted_none, flat_full, flat_on, counted_end, counted_full, going_start, going_under, going_on}
+use Rattle.count.proofs.Counted.{Going}
 use Rattle.count.proofs.+count_chain_count_run.Given as goal
 
 abbrev pub invariant-count_run-loop-i : goal.invariant-count_run-loop-i

@@ -1,7 +1,6 @@
 -- `count::count_ends` meets its contract: in the last field there are as many locations as ends.
 -- Assumes nothing.
 use mathlib.Core.Path.{refl}
-use borrow.Author.Rules.{rules}
 use Rattle.count.proofs.Counted.{last_full, last_fits}
 use Rattle.count.proofs.count_ends.Goals as goal
 

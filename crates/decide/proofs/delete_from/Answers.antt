@@ -1,7 +1,5 @@
 -- `decide::delete_from` meets its contract: one law for each answer.
 -- Assumes nothing.
-use borrow.Author.Rules.{rules}
-use borrow.Author.Tests.{not-true, not-false}
 use mathlib.Core.Path.{sym, ◌∙◌}
 use native.Mathlib.Omega.{arith}
 use Rattle.table.specs.Rows.{kind_of, table_in}

@@ -1,6 +1,5 @@
 -- `decide::fits` meets its contract: the set that is counted is that of the rules with the lent one at its place.
 -- Assumes nothing.
-use borrow.Author.Rules.{rules}
 use mathlib.Core.Path.{◌≡◌, sym, ap, ap₂, ◌∙◌}
 use mathlib.Core.List.{List, ◌∷◌, ◌++◌}
 use native.Mathlib.Omega.{arith}

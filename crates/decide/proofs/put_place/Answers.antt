@@ -1,11 +1,10 @@
 -- `decide::put_place` meets its contract. The invariant: what is carried stands in front of the numbers that have yet to move.
 -- Assumes nothing.
 use borrow.Author.Rules.{rules}
-use mathlib.Core.Path.{◌≡◌, refl, ◌∙◌}
-use mathlib.Core.List.{◌∷◌, ◌++◌}
-use Prim.Native.Nat.{◌≤◌, ◌-◌}
+use mathlib.Core.Path.{refl, ◌∙◌}
+use Prim.Native.Nat.{◌-◌}
 use native.Mathlib.Omega.{arith}
-use lib.ListN.{length, take, drop, length-set}
+use lib.ListN.{length-set}
 use Rattle.rows.proofs.Insert.{move_on, move_end}
 use Rattle.decide.proofs.put_place.Goals as goal
 

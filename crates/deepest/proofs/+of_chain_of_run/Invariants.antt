@@ -1,13 +1,8 @@
 -- `deepest::of_chain` and `deepest::of_run` meet their contracts. They call each other, and the number of fields left falls: the measures are twice that number, and one more for a chain. The loop's invariant is `Going`, and its measure the ends that are left.
 -- Assumes nothing.
-use Prim.Native.Nat.{ℕ, ◌<◌, ◌+◌, ◌*◌}
-use mathlib.Core.Path.{sym, ◌∙◌}
+use Prim.Native.Nat.{◌+◌, ◌*◌}
 use mathlib.Core.List.{◌++◌}
-use native.Mathlib.Omega.{arith}
-use borrow.Author.Rules.{rules}
-use Rattle.rows.proofs.Room.{set_fits, set_long, set_ends_fit, scratch_on}
-use Rattle.search.proofs.Written.{some}
-use Rattle.deepest.proofs.Steps.{first_there, one_less, Going, leaf_met, leaf_not, flat_met, flat_not, going_start, going_end, going_asks, going_above, going_under, going_better, going_worse}
+use Rattle.deepest.proofs.Steps.{Going}
 use Rattle.deepest.proofs.+of_chain_of_run.Given as goal
 
 abbrev pub invariant-of_run-loop-i : goal.invariant-of_run-loop-i

@@ -1,7 +1,5 @@
 -- `deepest::levels` meets its contract. The invariant: the levels passed are counted. Assumes nothing.
-use native.Mathlib.Omega.{arith}
-use borrow.Author.Rules.{rules}
-use Rattle.deepest.proofs.Steps.{Passed, few_levels, passed_start, passed_on, passed_done}
+use Rattle.deepest.proofs.Steps.{Passed}
 use Rattle.deepest.proofs.levels.Given as goal
 
 abbrev pub invariant-loop-left : goal.invariant-loop-left

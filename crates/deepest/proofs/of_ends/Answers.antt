@@ -1,6 +1,5 @@
 -- `deepest::of_ends` meets its contract: in the last field all locations read as many blocks.
 -- Assumes nothing.
-use borrow.Author.Rules.{rules}
 use mathlib.Core.Path.{refl}
 use native.Mathlib.Omega.{arith}
 use Rattle.deepest.proofs.Steps.{last_none, last_not, last_met}

@@ -1,11 +1,7 @@
 -- `freeze::freeze_in` meets its contract: what the total says, 8 where the slice is shorter, and else the image is written.
 -- Assumes nothing.
-use borrow.Author.Rules.{rules}
 use mathlib.Core.Path.{◌≡◌}
 use mathlib.Core.Bool.{true}
-use mathlib.Core.List.{List}
-use Prim.Native.Nat.{ℕ}
-use Rattle.model.specs.Table.{Kind, Shaped}
 use Rattle.table.specs.Rows.{kind_of}
 use Rattle.layout.specs.Store.{passes}
 use Rattle.frozen.proofs.Laws.{freeze_8, freeze_fits, freeze_0, freeze_9, total_passes}

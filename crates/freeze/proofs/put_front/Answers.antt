@@ -4,7 +4,7 @@ use Prim.Native.Nat.{◌-◌}
 use native.Mathlib.Omega.{arith}
 use borrow.Author.Rules.{rules}
 use lib.ListN.{length-set}
-use Rattle.freeze.proofs.Front.{Fronted, fronted_start, fronted_on, fronted_done}
+use Rattle.freeze.proofs.Front.{fronted_start, fronted_on, fronted_done}
 use Rattle.freeze.proofs.put_front.Goals as goal
 
 -- loop-holds

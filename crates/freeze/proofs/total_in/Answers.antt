@@ -1,12 +1,9 @@
 -- `freeze::total_in` meets its contract: 9 where the check fails, and else the front and the blocks that were counted.
 -- Assumes nothing.
-use borrow.Author.Tests.{not-true, not-false}
-use Prim.Native.Nat.{ℕ, ◌≤◌}
+use Prim.Native.Nat.{◌≤◌}
 use mathlib.Core.Path.{◌≡◌, refl, sym, ◌∙◌}
-use mathlib.Core.List.{List}
 use mathlib.Core.Bool.{true}
 use native.Mathlib.Omega.{arith}
-use Rattle.model.specs.Table.{Kind, Shaped}
 use Rattle.table.specs.Rows.{kind_of}
 use Rattle.layout.specs.Store.{cells_in, passes}
 use Rattle.layout.proofs.Parts.{part_here}

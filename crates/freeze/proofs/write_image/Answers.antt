@@ -1,17 +1,11 @@
 -- `freeze::write_image` meets its contract: the front of the image, and behind it the blocks of the tree that the store's cells give.
 -- Assumes nothing.
-use mathlib.Core.Path.{◌≡◌, refl}
-use mathlib.Core.Bool.{true}
-use mathlib.Core.List.{List}
-use Prim.Native.Nat.{ℕ, ◌+◌, ◌≤◌}
+use mathlib.Core.Path.{refl}
 use native.Mathlib.Omega.{arith}
-use lib.ListN.{length}
-use Rattle.model.specs.Table.{Kind, Shaped, row_words}
 use Rattle.table.specs.Rows.{kind_of}
-use Rattle.layout.specs.Store.{cells_in, table_of, passes}
+use Rattle.layout.specs.Store.{cells_in}
 use Rattle.layout.proofs.Parts.{part_here}
 use Rattle.layout.proofs.Sound.{Roomy}
-use Rattle.frozen.specs.Frozen.{image_size}
 use Rattle.frozen.proofs.Laws.{room, total_small}
 use Rattle.freeze.proofs.Image.{words_taken, front_taken, front_room, front_some, named_part, blocks_room, image_written}
 use Rattle.freeze.proofs.write_image.Goals as goal

@@ -1,6 +1,5 @@
 -- `front::carried` meets its contract: the head, and then the rows that are lent, with zeros behind them.
 -- Assumes nothing.
-use borrow.Author.Rules.{rules}
 use native.Mathlib.Omega.{arith}
 use mathlib.Core.Path.{sym}
 use lib.Seq.{length-take-le}

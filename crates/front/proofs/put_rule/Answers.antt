@@ -1,6 +1,5 @@
 -- `front::put_rule` meets its contract: the rows from the rule's place on move up, its row is written, and one rule more is named.
 -- Assumes nothing.
-use borrow.Author.Rules.{rules}
 use mathlib.Core.Path.{refl}
 use Prim.Native.Nat.{◌+◌}
 use native.Mathlib.Omega.{arith}

@@ -1,6 +1,5 @@
 -- `front::take_rule` meets its contract: the rows behind the rule move down, and one rule less is named.
 -- Assumes nothing.
-use borrow.Author.Rules.{rules}
 use mathlib.Core.Path.{refl}
 use Prim.Native.Nat.{◌+◌}
 use native.Mathlib.Omega.{arith}

@@ -1,11 +1,11 @@
 -- `front::write_head` meets its contract. The invariant: the words up to word i are written.
 -- Assumes nothing.
-use Prim.Native.Nat.{ℕ, ◌≤◌, ◌-◌}
+use Prim.Native.Nat.{ℕ, ◌-◌}
 use mathlib.Core.Path.{◌≡◌, refl, sym, ◌∙◌}
-use mathlib.Core.List.{List, ◌∷◌}
+use mathlib.Core.List.{List}
 use borrow.Author.Rules.{rules}
 use native.Mathlib.Omega.{arith}
-use lib.ListN.{length, take, set, replicate, length-set}
+use lib.ListN.{length, set, length-set}
 use Rattle.front.proofs.Front.{head_start, head_on, head_end}
 use Rattle.front.proofs.write_head.Goals as goal
 

@@ -1,12 +1,9 @@
 -- `front::write_head` meets its contract. The invariant: the words up to word i are written.
 -- Assumes nothing.
-use Prim.Native.Nat.{ℕ, ◌≤◌, ◌-◌}
-use mathlib.Core.Path.{◌≡◌, refl, sym, ◌∙◌}
-use mathlib.Core.List.{List, ◌∷◌}
-use borrow.Author.Rules.{rules}
-use native.Mathlib.Omega.{arith}
-use lib.ListN.{length, take, set, replicate, length-set}
-use Rattle.front.proofs.Front.{head_start, head_on, head_end}
+use Prim.Native.Nat.{◌≤◌, ◌-◌}
+use mathlib.Core.Path.{◌≡◌}
+use mathlib.Core.List.{◌∷◌}
+use lib.ListN.{length, take, replicate}
 use Rattle.front.proofs.write_head.Given as goal
 
 abbrev pub invariant-loop-i : goal.invariant-loop-i

@@ -1,6 +1,5 @@
 -- `inspect::blocks_are` meets its contract: what is compared is the tree of the places that are written.
 -- Assumes nothing.
-use borrow.Author.Rules.{rules}
 use Rattle.inspect.proofs.blocks_are.Goals as goal
 
 -- returns

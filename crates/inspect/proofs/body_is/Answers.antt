@@ -2,11 +2,9 @@
 -- Assumes nothing.
 use mathlib.Core.Bool.{not}
 use mathlib.Core.Path.{ap}
-use mathlib.Core.List.{List}
-use Prim.Native.Nat.{ℕ, suc}
+use Prim.Native.Nat.{suc}
 use native.Mathlib.Omega.{arith}
 use lib.ListN.{length-take, length-drop}
-use Rattle.model.specs.Table.{Kind, Shaped}
 use Rattle.table.specs.Rows.{kind_of}
 use Rattle.layout.proofs.Parts.{scratch_few}
 use Rattle.inspect.proofs.Laws.{wrong_table, wrong_blocks, right_body}

@@ -1,6 +1,5 @@
 -- `inspect::cells_fit` meets its contract: what is counted is the tree of the places that are written, and no more than a store's cells.
 -- Assumes nothing.
-use borrow.Author.Rules.{rules}
 use mathlib.Core.List.{append-nil}
 use Rattle.layout.proofs.Parts.{counted}
 use Rattle.inspect.proofs.cells_fit.Goals as goal

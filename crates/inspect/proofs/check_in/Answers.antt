@@ -2,11 +2,6 @@
 -- Assumes nothing.
 use mathlib.Core.Bool.{not}
 use mathlib.Core.Path.{ap}
-use borrow.Author.Rules.{rules}
-use mathlib.Core.Path.{◌≡◌}
-use mathlib.Core.List.{List}
-use Prim.Native.Nat.{ℕ, ◌+◌}
-use Rattle.model.specs.Table.{Kind, Shaped, row_words}
 use Rattle.table.specs.Rows.{kind_of}
 use Rattle.inspect.proofs.Laws.{short_image, long_image, some_cells, many_rules, other_mark, some_first, some_second, some_zeros, by_body}
 use Rattle.inspect.proofs.check_in.Goals as goal

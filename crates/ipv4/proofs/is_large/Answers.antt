@@ -1,6 +1,5 @@
 -- `ipv4::is_large` meets its contract: fewer than three words have no word 2, and so name no large store.
 -- Assumes nothing.
-use borrow.Author.Rules.{rules}
 use mathlib.Core.Path.{sym, ap}
 use native.Mathlib.Omega.{arith}
 use lib.Dec.{eqb}

@@ -1,6 +1,5 @@
 -- `ipv4::row_of` meets its contract: word for word.
 -- Assumes nothing.
-use borrow.Author.Rules.{rules}
 use mathlib.Core.Path.{refl}
 use Rattle.model.specs.Lists.{up_to}
 use Rattle.ipv4.proofs.row_of.Goals as goal

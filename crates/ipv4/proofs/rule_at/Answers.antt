@@ -1,6 +1,5 @@
 -- `ipv4::rule_at` meets its contract: each number is what its reader ensures.
 -- Assumes nothing.
-use borrow.Author.Rules.{rules}
 use Rattle.model.specs.Lists.{up_to}
 use Rattle.ipv4.proofs.rule_at.Goals as goal
 

@@ -1,11 +1,11 @@
 -- `lay::count_chain` meets its contract: the number of fields left falls with each call. The loop's invariant is `Counted`.
 -- Assumes nothing.
 use mathlib.Core.Path.{refl}
-use Prim.Native.Nat.{ℕ, ◌-◌, ◌<◌}
+use Prim.Native.Nat.{◌-◌}
 use native.Mathlib.Omega.{arith}
 use native.Mathlib.Nat.{pos_of_ne-zero}
 use borrow.Author.Rules.{rules}
-use Rattle.lay.proofs.Turns.{Counted, none_left, last_left, counted_start, counted_done, counted_room, counted_on, along_in}
+use Rattle.lay.proofs.Turns.{none_left, last_left, counted_start, counted_done, counted_room, counted_on, along_in}
 use Rattle.lay.proofs.+count_chain.Goals as goal
 
 -- returns

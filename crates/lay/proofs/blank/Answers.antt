@@ -4,9 +4,8 @@ use Prim.Native.Nat.{◌-◌, ◌*◌, ◌+◌}
 use native.Mathlib.Omega.{arith}
 use borrow.Author.Rules.{rules}
 use lib.ListN.{length-set}
-use Rattle.blocks.specs.Blocks.{top_end}
 use Rattle.blocks.specs.Written.{end_place, link_place}
-use Rattle.blocks.proofs.Writing.{Filled, filled_start, filled_on, filled_done}
+use Rattle.blocks.proofs.Writing.{filled_start, filled_on, filled_done}
 use Rattle.lay.proofs.blank.Goals as goal
 
 pub loop-i-init : goal.loop-i-init

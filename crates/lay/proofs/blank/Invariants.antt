@@ -1,12 +1,7 @@
 -- `lay::blank` meets its contract. The invariant: the places passed are written. Assumes nothing.
-use mathlib.Core.Path.{◌≡◌, refl}
-use Prim.Native.Nat.{◌-◌, ◌*◌, ◌+◌}
-use native.Mathlib.Omega.{arith}
-use borrow.Author.Rules.{rules}
-use lib.ListN.{length-set}
+use Prim.Native.Nat.{◌-◌}
 use Rattle.blocks.specs.Blocks.{top_end}
-use Rattle.blocks.specs.Written.{end_place, link_place}
-use Rattle.blocks.proofs.Writing.{Filled, filled_start, filled_on, filled_done}
+use Rattle.blocks.proofs.Writing.{Filled}
 use Rattle.lay.proofs.blank.Given as goal
 
 abbrev pub invariant-loop-i : goal.invariant-loop-i

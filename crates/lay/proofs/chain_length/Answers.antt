@@ -1,9 +1,8 @@
 -- `lay::chain_length` meets its contract. The invariant: m cells are passed, and the chain goes on at a cell. Assumes nothing.
 use mathlib.Core.Path.{refl}
 use Prim.Native.Nat.{◌-◌}
-use native.Mathlib.Omega.{arith}
 use borrow.Author.Rules.{rules}
-use Rattle.lay.proofs.Turns.{Passing, passing_start, passing_out, passing_done, passing_on}
+use Rattle.lay.proofs.Turns.{passing_start, passing_out, passing_done, passing_on}
 use Rattle.lay.proofs.chain_length.Goals as goal
 
 pub loop-m-init : goal.loop-m-init

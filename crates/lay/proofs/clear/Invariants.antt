@@ -1,11 +1,7 @@
 -- `lay::clear` meets its contract. The invariant: the blocks passed are written. Assumes nothing.
-use mathlib.Core.Path.{◌≡◌}
 use Prim.Native.Nat.{◌-◌, ◌≤◌}
-use native.Mathlib.Omega.{arith}
-use borrow.Author.Rules.{rules}
 use Rattle.blocks.specs.Blocks.{top_end}
 use Rattle.blocks.specs.Written.{Level}
-use Rattle.blocks.proofs.Chains.{blanks_none, blanks_more}
 use Rattle.lay.proofs.clear.Given as goal
 
 abbrev pub invariant-loop-j : goal.invariant-loop-j

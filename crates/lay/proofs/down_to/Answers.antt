@@ -1,7 +1,6 @@
 -- `lay::down_to` meets its contract. Assumes nothing.
 use native.Mathlib.Omega.{arith}
 use borrow.Author.Tests.{eq-eqb, ne_eqb}
-use borrow.Author.Rules.{rules}
 use Rattle.lay.proofs.down_to.Goals as goal
 
 -- add-result: the place is small

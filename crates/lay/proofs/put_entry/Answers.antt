@@ -1,6 +1,5 @@
 -- `lay::put_entry` meets its contract. Assumes nothing.
 use native.Mathlib.Omega.{arith}
-use borrow.Author.Rules.{rules}
 use lib.ListN.{length-set}
 use Rattle.lay.proofs.put_entry.Goals as goal
 

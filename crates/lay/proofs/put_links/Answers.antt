@@ -1,10 +1,9 @@
 -- `lay::put_links` meets its contract. The invariant: the places passed are written. Assumes nothing.
-use mathlib.Core.Path.{◌≡◌, refl}
-use Prim.Native.Nat.{◌-◌, ◌*◌}
-use native.Mathlib.Omega.{arith}
+use mathlib.Core.Path.{refl}
+use Prim.Native.Nat.{◌-◌}
 use borrow.Author.Rules.{rules}
-use lib.ListN.{length, length-set}
-use Rattle.blocks.proofs.Writing.{Linked, linked_start, linked_on, linked_done}
+use lib.ListN.{length-set}
+use Rattle.blocks.proofs.Writing.{linked_start, linked_on, linked_done}
 use Rattle.lay.proofs.put_links.Goals as goal
 
 pub loop-j-init : goal.loop-j-init

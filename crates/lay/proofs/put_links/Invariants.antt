@@ -1,10 +1,8 @@
 -- `lay::put_links` meets its contract. The invariant: the places passed are written. Assumes nothing.
-use mathlib.Core.Path.{◌≡◌, refl}
+use mathlib.Core.Path.{◌≡◌}
 use Prim.Native.Nat.{◌-◌, ◌*◌}
-use native.Mathlib.Omega.{arith}
-use borrow.Author.Rules.{rules}
-use lib.ListN.{length, length-set}
-use Rattle.blocks.proofs.Writing.{Linked, linked_start, linked_on, linked_done}
+use lib.ListN.{length}
+use Rattle.blocks.proofs.Writing.{Linked}
 use Rattle.lay.proofs.put_links.Given as goal
 
 abbrev pub invariant-loop-j : goal.invariant-loop-j

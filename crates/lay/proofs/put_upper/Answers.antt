@@ -2,7 +2,7 @@
 use Prim.Native.Nat.{◌-◌}
 use native.Mathlib.Omega.{arith}
 use borrow.Author.Rules.{rules}
-use Rattle.blocks.proofs.Writing.{Climbs, climbs_start, climbs_fits, climbs_on, climbs_done}
+use Rattle.blocks.proofs.Writing.{climbs_start, climbs_fits, climbs_on, climbs_done}
 use Rattle.lay.proofs.put_upper.Goals as goal
 
 pub loop-left-init : goal.loop-left-init

@@ -1,8 +1,6 @@
 -- `lay::put_upper` meets its contract. The invariant: the lowest level that stands is right, and what is to be laid above it is the same. Assumes nothing.
 use Prim.Native.Nat.{◌-◌}
-use native.Mathlib.Omega.{arith}
-use borrow.Author.Rules.{rules}
-use Rattle.blocks.proofs.Writing.{Climbs, climbs_start, climbs_fits, climbs_on, climbs_done}
+use Rattle.blocks.proofs.Writing.{Climbs}
 use Rattle.lay.proofs.put_upper.Given as goal
 
 abbrev pub invariant-loop-left : goal.invariant-loop-left

@@ -1,5 +1,4 @@
 -- `lay::write` meets its contract: the blocks from block 0 on, and the words behind them. Assumes nothing.
-use borrow.Author.Rules.{rules}
 use Rattle.blocks.proofs.Chains.{whole}
 use Rattle.lay.proofs.write.Goals as goal
 

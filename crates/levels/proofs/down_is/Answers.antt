@@ -1,6 +1,5 @@
 -- `levels::down_is` meets its contract.
 -- Assumes nothing.
-use borrow.Author.Rules.{rules}
 use Rattle.levels.proofs.Levels.{down_none, down_rest}
 use Rattle.levels.proofs.down_is.Goals as goal
 

@@ -1,6 +1,5 @@
 -- `levels::end_is` meets its contract.
 -- Assumes nothing.
-use borrow.Author.Rules.{rules}
 use Rattle.levels.proofs.Levels.{right_not, right_end, right_pad}
 use Rattle.levels.proofs.end_is.Goals as goal
 

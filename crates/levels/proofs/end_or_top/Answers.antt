@@ -1,6 +1,5 @@
 -- `levels::end_or_top` meets its contract.
 -- Assumes nothing.
-use borrow.Author.Rules.{rules}
 use borrow.Author.Tests.{lt-ltb, le-ltb}
 use Rattle.levels.proofs.end_or_top.Goals as goal
 

@@ -2,11 +2,10 @@
 -- Assumes nothing.
 use mathlib.Core.Bool.{not}
 use mathlib.Core.Path.{ap}
-use Prim.Native.Nat.{◌-◌, ◌*◌}
-use native.Mathlib.Omega.{arith}
+use Prim.Native.Nat.{◌-◌}
 use borrow.Author.Rules.{rules}
 use Rattle.model.proofs.Tests.{was_no, was_yes}
-use Rattle.levels.proofs.Levels.{EndsTo, ends_start, ends_on, ends_not, ends_done}
+use Rattle.levels.proofs.Levels.{ends_start, ends_on, ends_not, ends_done}
 use Rattle.levels.proofs.ends_are.Goals as goal
 
 pub loop-j-init : goal.loop-j-init

@@ -1,10 +1,7 @@
 -- `levels::ends_are` meets its contract. The invariant: the places passed are right.
 -- Assumes nothing.
 use Prim.Native.Nat.{◌-◌, ◌*◌}
-use native.Mathlib.Omega.{arith}
-use borrow.Author.Rules.{rules}
-use Rattle.model.proofs.Tests.{was_no, was_yes}
-use Rattle.levels.proofs.Levels.{EndsTo, ends_start, ends_on, ends_not, ends_done}
+use Rattle.levels.proofs.Levels.{EndsTo}
 use Rattle.levels.proofs.ends_are.Given as goal
 
 abbrev pub invariant-loop-j : goal.invariant-loop-j

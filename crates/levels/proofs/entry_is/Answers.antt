@@ -1,6 +1,5 @@
 -- `levels::entry_is` meets its contract.
 -- Assumes nothing.
-use borrow.Author.Rules.{rules}
 use Rattle.levels.proofs.Levels.{both_same, not_both}
 use Rattle.levels.proofs.entry_is.Goals as goal
 

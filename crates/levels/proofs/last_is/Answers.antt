@@ -2,12 +2,10 @@
 -- Assumes nothing.
 use mathlib.Core.Bool.{not}
 use mathlib.Core.Path.{ap}
-use Prim.Native.Nat.{◌+◌, ◌-◌}
+use Prim.Native.Nat.{◌-◌}
 use mathlib.Core.List.{append-nil}
 use native.Mathlib.Omega.{arith}
-use borrow.Author.Rules.{rules}
-use Rattle.blocks.specs.Blocks.{parts}
-use Rattle.levels.proofs.Chain.{Looks, looks_start, looks_in, last_no, last_on, looks_above, looks_done, looks_not}
+use Rattle.levels.proofs.Chain.{looks_start, looks_in, last_no, last_on, looks_above, looks_done, looks_not}
 use Rattle.levels.proofs.last_is.Goals as goal
 
 -- loop-holds

@@ -1,11 +1,8 @@
 -- `levels::last_is` meets its contract. The invariant is `Looks`: the links of the first `i` ends stand, and nothing is below them.
 -- Assumes nothing.
 use Prim.Native.Nat.{◌+◌, ◌-◌}
-use mathlib.Core.List.{append-nil}
-use native.Mathlib.Omega.{arith}
-use borrow.Author.Rules.{rules}
 use Rattle.blocks.specs.Blocks.{parts}
-use Rattle.levels.proofs.Chain.{Looks, looks_start, looks_in, last_no, last_on, looks_above, looks_done, looks_not}
+use Rattle.levels.proofs.Chain.{Looks}
 use Rattle.levels.proofs.last_is.Given as goal
 
 abbrev pub invariant-loop-i : goal.invariant-loop-i

@@ -2,11 +2,10 @@
 -- Assumes nothing.
 use mathlib.Core.Bool.{not}
 use mathlib.Core.Path.{ap}
-use Prim.Native.Nat.{◌-◌, ◌*◌, ◌≤◌}
-use native.Mathlib.Omega.{arith}
+use Prim.Native.Nat.{◌-◌}
 use borrow.Author.Rules.{rules}
 use Rattle.model.proofs.Tests.{was_no, was_yes}
-use Rattle.blocks.proofs.Writing.{Linked, linked_start, linked_done}
+use Rattle.blocks.proofs.Writing.{linked_start, linked_done}
 use Rattle.levels.proofs.Levels.{links_on, links_not}
 use Rattle.levels.proofs.links_are.Goals as goal
 

@@ -1,11 +1,7 @@
 -- `levels::links_are` meets its contract. The invariant: the places passed are right.
 -- Assumes nothing.
 use Prim.Native.Nat.{◌-◌, ◌*◌, ◌≤◌}
-use native.Mathlib.Omega.{arith}
-use borrow.Author.Rules.{rules}
-use Rattle.model.proofs.Tests.{was_no, was_yes}
-use Rattle.blocks.proofs.Writing.{Linked, linked_start, linked_done}
-use Rattle.levels.proofs.Levels.{links_on, links_not}
+use Rattle.blocks.proofs.Writing.{Linked}
 use Rattle.levels.proofs.links_are.Given as goal
 
 abbrev pub invariant-loop-j : goal.invariant-loop-j

@@ -7,7 +7,6 @@ use mathlib.Core.List.{append-nil}
 use Prim.Native.Nat.{◌*◌, ◌≤◌}
 use native.Mathlib.Omega.{arith}
 use lib.ListN.{length, take}
-use borrow.Author.Rules.{rules}
 use Rattle.model.specs.Rules.{ends as ends_of}
 use Rattle.rows.specs.Rows.{field_at}
 use Rattle.blocks.specs.Blocks.{depth}

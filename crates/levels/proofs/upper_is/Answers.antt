@@ -4,7 +4,7 @@ use mathlib.Core.Bool.{not}
 use mathlib.Core.Path.{ap}
 use native.Mathlib.Omega.{arith}
 use borrow.Author.Rules.{rules}
-use Rattle.blocks.proofs.Writing.{Climbs, climbs_start, climbs_fits}
+use Rattle.blocks.proofs.Writing.{climbs_start, climbs_fits}
 use Rattle.levels.proofs.Levels.{mounts_on, mounts_not, mounts_done}
 use Rattle.levels.proofs.upper_is.Goals as goal
 

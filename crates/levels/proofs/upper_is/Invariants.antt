@@ -1,9 +1,6 @@
 -- `levels::upper_is` meets its contract. The invariant: the levels passed are right, and what is to stand above them is the same.
 -- Assumes nothing.
-use native.Mathlib.Omega.{arith}
-use borrow.Author.Rules.{rules}
-use Rattle.blocks.proofs.Writing.{Climbs, climbs_start, climbs_fits}
-use Rattle.levels.proofs.Levels.{mounts_on, mounts_not, mounts_done}
+use Rattle.blocks.proofs.Writing.{Climbs}
 use Rattle.levels.proofs.upper_is.Given as goal
 
 abbrev pub invariant-loop-left : goal.invariant-loop-left

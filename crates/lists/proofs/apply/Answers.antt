@@ -1,6 +1,5 @@
 -- `lists::apply` meets its contract: what an accepted edit asks of the front holds there, and the front is then that of the edited table.
 -- Assumes nothing.
-use borrow.Author.Rules.{rules}
 use mathlib.Core.Path.{◌≡◌}
 use native.Mathlib.Omega.{arith}
 use Prim.Native.Nat.{◌+◌, ◌-◌, ◌*◌, ◌≤◌}

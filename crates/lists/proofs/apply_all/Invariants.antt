@@ -1,17 +1,13 @@
 -- `lists::apply_all` meets its contract. The invariant: the front is that of a table in which the edits that are left are accepted, and come to the table after all of them.
 -- Assumes nothing.
-use borrow.Author.Rules.{rules}
-use mathlib.Core.Path.{◌≡◌, refl}
+use mathlib.Core.Path.{◌≡◌}
 use Prim.Native.Nat.{ℕ, ◌+◌, ◌-◌, ◌*◌, ◌≤◌}
-use native.Mathlib.Omega.{arith}
-use native.Mathlib.Numerals.{add-one}
 use lib.ListN.{length}
 use Rattle.model.specs.Table.{Table}
-use Rattle.model.proofs.Grid.{row_starts, row_ends}
 use Rattle.table.specs.Rows.{kind_of}
 use Rattle.series.specs.Edits.{edited_all, edits_from}
 use Rattle.lists.specs.Inner.{Fronts}
-use Rattle.lists.proofs.Applied.{Still, still_first, still_next, still_on, still_end}
+use Rattle.lists.proofs.Applied.{Still}
 use Rattle.lists.proofs.apply_all.Given as goal
 
 abbrev pub invariant-loop-i : goal.invariant-loop-i

@@ -1,6 +1,5 @@
 -- `lists::decide` meets its contract: the length, the check, and then what is decided of the rows.
 -- Assumes nothing.
-use borrow.Author.Tests.{not-true, not-false}
 use mathlib.Core.Path.{sym, ◌∙◌}
 use Prim.Native.Nat.{◌+◌}
 use native.Mathlib.Omega.{arith}

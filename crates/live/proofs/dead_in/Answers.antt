@@ -2,10 +2,8 @@
 -- Assumes nothing.
 use Prim.Native.Nat.{ℕ, ◌≤◌}
 use mathlib.Core.Path.{◌≡◌, sym, ◌∙◌}
-use mathlib.Core.List.{List}
 use native.Mathlib.Omega.{arith}
 use lib.ListN.{get_or}
-use Rattle.model.specs.Table.{Kind, Shaped}
 use Rattle.table.specs.Rows.{kind_of}
 use Rattle.layout.specs.Store.{cells_in, read_says}
 use Rattle.layout.proofs.Parts.{part_here}

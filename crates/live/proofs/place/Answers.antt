@@ -1,11 +1,8 @@
 -- `live::place` meets its contract: the rule of a number stands behind those of lesser numbers.
 -- Assumes nothing.
-use borrow.Author.Rules.{rules}
-use Prim.Native.Nat.{ℕ}
 use mathlib.Core.Path.{ap, ◌∙◌}
-use mathlib.Core.List.{List}
 use native.Mathlib.Omega.{arith}
-use Rattle.model.specs.Table.{Kind, Shaped, rising_from}
+use Rattle.model.specs.Table.{rising_from}
 use Rattle.table.specs.Rows.{kind_of, ahead}
 use Rattle.layout.specs.Store.{cells_in}
 use Rattle.layout.proofs.Sound.{Sound, sound, Roomy}

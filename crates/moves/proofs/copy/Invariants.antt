@@ -1,13 +1,10 @@
 -- `moves::copy` meets its contract. The invariants: the words are copied as far as there are any, and then zeros are written.
 -- Assumes nothing.
 use Prim.Native.Nat.{◌≤◌, ◌-◌}
-use mathlib.Core.Path.{◌≡◌, refl, ◌∙◌}
+use mathlib.Core.Path.{◌≡◌}
 use mathlib.Core.List.{[]}
-use borrow.Author.Rules.{rules}
-use native.Mathlib.Omega.{arith}
-use lib.ListN.{length, length-set}
+use lib.ListN.{length}
 use Rattle.table.specs.Rows.{Copied}
-use Rattle.moves.proofs.Copies.{copied_start, copied_on, copied_all}
 use Rattle.moves.proofs.copy.Given as goal
 
 abbrev pub invariant-loop-i : goal.invariant-loop-i

@@ -1,11 +1,9 @@
 -- `moves::fresh` meets its contract. The invariant: what was written is what the rows of the default alone have there.
 -- Assumes nothing.
-use Prim.Native.Nat.{◌≤◌, ◌-◌}
-use mathlib.Core.Path.{◌≡◌, refl, sym, ◌∙◌}
+use mathlib.Core.Path.{refl, sym, ◌∙◌}
 use borrow.Author.Rules.{rules}
 use native.Mathlib.Omega.{arith}
-use lib.ListN.{length, take, length-set}
-use Rattle.model.specs.Lists.{up_to}
+use lib.ListN.{length-set}
 use Rattle.model.proofs.UpTo.{fill_start, fill_step, fill_end}
 use Rattle.table.specs.Rows.{kind_of, fresh_word}
 use Rattle.moves.proofs.Default.{fresh_rows}

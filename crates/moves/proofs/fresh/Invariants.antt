@@ -1,14 +1,10 @@
 -- `moves::fresh` meets its contract. The invariant: what was written is what the rows of the default alone have there.
 -- Assumes nothing.
 use Prim.Native.Nat.{◌≤◌, ◌-◌}
-use mathlib.Core.Path.{◌≡◌, refl, sym, ◌∙◌}
-use borrow.Author.Rules.{rules}
-use native.Mathlib.Omega.{arith}
-use lib.ListN.{length, take, length-set}
+use mathlib.Core.Path.{◌≡◌}
+use lib.ListN.{length, take}
 use Rattle.model.specs.Lists.{up_to}
-use Rattle.model.proofs.UpTo.{fill_start, fill_step, fill_end}
 use Rattle.table.specs.Rows.{kind_of, fresh_word}
-use Rattle.moves.proofs.Default.{fresh_rows}
 use Rattle.moves.proofs.fresh.Given as goal
 
 abbrev pub invariant-loop-i : goal.invariant-loop-i

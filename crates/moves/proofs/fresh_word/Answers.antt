@@ -1,6 +1,5 @@
 -- `moves::fresh_word` meets its contract.
 -- Assumes nothing.
-use borrow.Author.Rules.{rules}
 use borrow.Author.Tests.{lt-ltb, le-ltb}
 use Rattle.moves.proofs.fresh_word.Goals as goal
 

@@ -1,11 +1,11 @@
 -- `moves::move_up` meets its contract. The invariant: from word i on the words are moved.
 -- Assumes nothing.
-use Prim.Native.Nat.{◌≤◌, ◌-◌, ◌+◌}
-use mathlib.Core.Path.{◌≡◌, refl, ◌∙◌}
+use Prim.Native.Nat.{◌-◌}
+use mathlib.Core.Path.{refl, ◌∙◌}
 use borrow.Author.Rules.{rules}
 use native.Mathlib.Omega.{arith}
-use lib.ListN.{length, length-set}
-use Rattle.moves.proofs.Copies.{Rising, rising_start, rising_on, raised}
+use lib.ListN.{length-set}
+use Rattle.moves.proofs.Copies.{rising_start, rising_on, raised}
 use Rattle.moves.proofs.move_up.Goals as goal
 
 -- loop-holds

@@ -1,7 +1,6 @@
 -- `moves::put` meets its contract: words moved up, and a row written where they were.
 -- Assumes nothing.
 use mathlib.Core.Path.{◌∙◌}
-use borrow.Author.Rules.{rules}
 use Rattle.moves.proofs.Copies.{put_moved}
 use Rattle.moves.proofs.put.Goals as goal
 

@@ -1,11 +1,9 @@
 -- `moves::take_out` meets its contract. The invariant: up to word i the words are moved.
 -- Assumes nothing.
 use Prim.Native.Nat.{◌≤◌, ◌-◌}
-use mathlib.Core.Path.{◌≡◌, refl, ◌∙◌}
-use borrow.Author.Rules.{rules}
-use native.Mathlib.Omega.{arith}
-use lib.ListN.{length, length-set}
-use Rattle.moves.proofs.Copies.{Sinking, sinking_start, sinking_on, sunk}
+use mathlib.Core.Path.{◌≡◌}
+use lib.ListN.{length}
+use Rattle.moves.proofs.Copies.{Sinking}
 use Rattle.moves.proofs.take_out.Given as goal
 
 abbrev pub invariant-loop-i : goal.invariant-loop-i

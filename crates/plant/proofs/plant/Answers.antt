@@ -1,6 +1,5 @@
 -- `plant::plant` meets its contract: the rules' places are written into the scratch, and the tree is planted behind the rows.
 -- Assumes nothing.
-use borrow.Author.Rules.{rules}
 use native.Mathlib.Omega.{arith}
 use Rattle.table.specs.Rows.{kind_of}
 use Rattle.plant.proofs.Planting.{plantable, sets_planted}

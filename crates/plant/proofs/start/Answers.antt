@@ -1,6 +1,5 @@
 -- `plant::start` meets its contract: the cells are emptied, the front is written, the tree is planted.
 -- Assumes nothing.
-use borrow.Author.Tests.{not-true, not-false}
 use mathlib.Core.Path.{refl, sym, ◌∙◌}
 use mathlib.Core.List.{[]}
 use native.Mathlib.Omega.{arith}

@@ -4,7 +4,6 @@ use Prim.Native.Nat.{ℕ, ◌-◌, ◌%◌}
 use mathlib.Core.Path.{◌≡◌, ◌∙◌, sym}
 use native.Mathlib.Omega.{arith}
 use lib.Bits.{bit_and, and_mask}
-use borrow.Author.Rules.{rules}
 use Rattle.prefix.specs.Prefix.{block_size}
 use Rattle.prefix.specs.Facts.{when_long, when_apart, when_whole, fits}
 use Rattle.prefix.proofs.range_of.Goals as goal

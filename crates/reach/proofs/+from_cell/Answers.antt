@@ -1,12 +1,10 @@
 -- `reach::from_cell` meets its contract. The invariant: nothing is written, nothing is found before the rest of the chain. The measures are the fields that are left, and the cells that may still be read.
 -- Assumes nothing.
-use Prim.Native.Nat.{ℕ, ◌<◌, ◌-◌}
 use mathlib.Core.Path.{ap, ◌∙◌}
 use mathlib.Core.Logic.{inl, inr}
-use borrow.Author.Rules.{rules}
 use lib.ListN.{length, length-set}
 use Rattle.search.proofs.Written.{some}
-use Rattle.reach.proofs.Steps.{Going, leaf, going_start, going_on, going_found, going_end}
+use Rattle.reach.proofs.Steps.{leaf, going_start, going_on, going_found, going_end}
 use Rattle.reach.proofs.+from_cell.Goals as goal
 
 pub returns-then-left-eq0 : goal.returns-then-left-eq0

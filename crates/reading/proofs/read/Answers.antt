@@ -1,6 +1,5 @@
 -- `reading::read` meets its contract: it reads what the search found.
 -- Assumes nothing.
-use borrow.Author.Rules.{rules}
 use mathlib.Core.Path.{sym, ◌∙◌}
 use Rattle.model.specs.Table.{read_answer, read_rule}
 use Rattle.model.specs.Ipv4.{is_large, kind_in, ipv4_shaped}

@@ -1,6 +1,5 @@
 -- `reading::rule_found` meets its contract: what was found, or zeros.
 -- Assumes nothing.
-use borrow.Author.Rules.{rules}
 use mathlib.Core.Path.{sym, ap, ◌∙◌}
 use native.Mathlib.Omega.{arith}
 use Prim.Native.Nat.{suc, ◌*◌}

@@ -2,13 +2,10 @@
 -- Assumes nothing.
 use mathlib.Core.Path.{ap, ◌∙◌}
 use mathlib.Core.List.{◌++◌}
-use Prim.Native.Nat.{◌-◌, ◌≤◌}
+use Prim.Native.Nat.{◌-◌}
 use borrow.Author.Rules.{rules}
 use native.Mathlib.Omega.{arith}
 use lib.ListN.{get_or}
-use Rattle.model.specs.Table.{Kind, Table}
-use Rattle.table.specs.Rows.{ahead}
-use Rattle.roster.specs.Inner.{Named}
 use Rattle.roster.proofs.Sets.{all_ahead, some_ahead, none_ahead}
 use Rattle.roster.proofs.before.Goals as goal
 

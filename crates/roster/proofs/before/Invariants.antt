@@ -1,15 +1,10 @@
 -- `roster::before` meets its contract. The invariant: no rule behind place p of the set is ahead of the number.
 -- Assumes nothing.
-use mathlib.Core.Path.{ap, ◌∙◌}
 use mathlib.Core.List.{◌++◌}
 use Prim.Native.Nat.{◌-◌, ◌≤◌}
-use borrow.Author.Rules.{rules}
-use native.Mathlib.Omega.{arith}
-use lib.ListN.{get_or}
 use Rattle.model.specs.Table.{Kind, Table}
 use Rattle.table.specs.Rows.{ahead}
 use Rattle.roster.specs.Inner.{Named}
-use Rattle.roster.proofs.Sets.{all_ahead, some_ahead, none_ahead}
 use Rattle.roster.proofs.before.Given as goal
 
 abbrev pub invariant-loop-p : goal.invariant-loop-p

@@ -1,11 +1,8 @@
 -- `roster::copy_set` meets its contract. The invariant: as many numbers as the loop has gone are those of the set.
 -- Assumes nothing.
-use borrow.Author.Rules.{rules}
-use mathlib.Core.Path.{◌≡◌, ◌∙◌}
+use mathlib.Core.Path.{◌≡◌}
 use Prim.Native.Nat.{◌-◌, ◌≤◌}
-use native.Mathlib.Omega.{arith}
-use lib.ListN.{length, take, length-set}
-use Rattle.roster.proofs.Moves.{copied_on}
+use lib.ListN.{length, take}
 use Rattle.roster.proofs.copy_set.Given as goal
 
 abbrev pub invariant-loop-i : goal.invariant-loop-i

@@ -1,7 +1,6 @@
 -- `roster::delete_from` meets its contract: one law for each answer.
 -- Assumes nothing.
 use borrow.Author.Rules.{rules}
-use borrow.Author.Tests.{not-true, not-false}
 use mathlib.Core.Path.{sym, ◌∙◌}
 use native.Mathlib.Omega.{arith}
 use Rattle.decide.proofs.Answers.{gone_1, gone_4}

@@ -1,6 +1,5 @@
 -- `roster::fits` meets its contract.
 -- Assumes nothing.
-use borrow.Author.Rules.{rules}
 use Rattle.layout.proofs.Parts.{counted}
 use Rattle.roster.proofs.fits.Goals as goal
 

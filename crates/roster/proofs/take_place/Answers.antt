@@ -1,11 +1,10 @@
 -- `roster::take_place` meets its contract. The invariant: the numbers in front, and those that have yet to move.
 -- Assumes nothing.
 use borrow.Author.Rules.{rules}
-use mathlib.Core.Path.{◌≡◌, refl, ◌∙◌}
-use mathlib.Core.List.{◌++◌}
-use Prim.Native.Nat.{◌+◌, ◌-◌, ◌<◌}
+use mathlib.Core.Path.{refl, ◌∙◌}
+use Prim.Native.Nat.{◌-◌}
 use native.Mathlib.Omega.{arith}
-use lib.ListN.{length, take, drop, length-set}
+use lib.ListN.{length-set}
 use Rattle.roster.proofs.Moves.{down_on, down_end}
 use Rattle.roster.proofs.take_place.Goals as goal
 

@@ -1,7 +1,5 @@
 -- `seek::cells` meets its contract: the first of the two links names the cells in use.
 -- Assumes nothing.
-use borrow.Author.Rules.{rules}
-use borrow.Author.Tests.{not-true, not-false}
 use mathlib.Core.Path.{sym, ◌∙◌}
 use native.Mathlib.Omega.{arith}
 use Rattle.table.specs.Rows.{kind_of}

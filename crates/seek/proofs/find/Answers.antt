@@ -1,6 +1,5 @@
 -- `seek::find` meets its contract: one law for each answer.
 -- Assumes nothing.
-use borrow.Author.Tests.{not-true, not-false}
 use mathlib.Core.Path.{sym, ap, ◌∙◌}
 use native.Mathlib.Omega.{arith}
 use Rattle.model.specs.Table.{rising_from, stands}

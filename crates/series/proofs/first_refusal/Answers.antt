@@ -1,16 +1,14 @@
 -- `series::first_refusal` meets its contract. The invariant: the edits before are accepted, the set names the table that they leave, and what the others answer in it is what the whole list answers.
 -- Assumes nothing.
 use borrow.Author.Rules.{rules}
-use mathlib.Core.Path.{◌≡◌, refl}
+use mathlib.Core.Path.{refl}
 use mathlib.Core.List.{◌++◌}
-use Prim.Native.Nat.{◌+◌, ◌-◌, ◌*◌, ◌≤◌}
+use Prim.Native.Nat.{◌+◌, ◌-◌}
 use native.Mathlib.Omega.{arith}
 use native.Mathlib.Numerals.{add-one}
-use lib.ListN.{length}
 use Rattle.model.proofs.Grid.{row_starts}
-use Rattle.table.specs.Rows.{kind_of, table_in}
-use Rattle.series.specs.Edits.{first_refusal, edits_from}
-use Rattle.series.proofs.Decided.{Going, going_first, going_end, going_refused, going_on}
+use Rattle.table.specs.Rows.{kind_of}
+use Rattle.series.proofs.Decided.{going_first, going_end, going_refused, going_on}
 use Rattle.series.proofs.first_refusal.Goals as goal
 
 pub overflow_cast-stride : goal.overflow_cast-stride

@@ -1,16 +1,12 @@
 -- `series::first_refusal` meets its contract. The invariant: the edits before are accepted, the set names the table that they leave, and what the others answer in it is what the whole list answers.
 -- Assumes nothing.
-use borrow.Author.Rules.{rules}
-use mathlib.Core.Path.{◌≡◌, refl}
+use mathlib.Core.Path.{◌≡◌}
 use mathlib.Core.List.{◌++◌}
 use Prim.Native.Nat.{◌+◌, ◌-◌, ◌*◌, ◌≤◌}
-use native.Mathlib.Omega.{arith}
-use native.Mathlib.Numerals.{add-one}
 use lib.ListN.{length}
-use Rattle.model.proofs.Grid.{row_starts}
 use Rattle.table.specs.Rows.{kind_of, table_in}
 use Rattle.series.specs.Edits.{first_refusal, edits_from}
-use Rattle.series.proofs.Decided.{Going, going_first, going_end, going_refused, going_on}
+use Rattle.series.proofs.Decided.{Going}
 use Rattle.series.proofs.first_refusal.Given as goal
 
 abbrev pub invariant-loop-i : goal.invariant-loop-i

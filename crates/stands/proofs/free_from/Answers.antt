@@ -2,12 +2,7 @@
 -- Assumes nothing.
 use mathlib.Core.Bool.{not}
 use mathlib.Core.Path.{ap}
-use mathlib.Core.Path.{◌≡◌, refl, sym, ◌∙◌}
-use Prim.Native.Nat.{◌-◌}
-use borrow.Author.Rules.{rules}
-use Rattle.cells.specs.Text.{frees}
-use Rattle.model.specs.Lists.{same}
-use Rattle.stands.specs.Stands.{from}
+use mathlib.Core.Path.{refl, sym, ◌∙◌}
 use Rattle.stands.proofs.Steps.{free_end, free_no_head, free_no_rest, free_on}
 use Rattle.stands.proofs.free_from.Goals as goal
 

@@ -1,12 +1,10 @@
 -- `stands::free_from` meets its contract. The invariant: the answer is that for the cells from `i` on.
 -- Assumes nothing.
-use mathlib.Core.Path.{◌≡◌, refl, sym, ◌∙◌}
+use mathlib.Core.Path.{◌≡◌}
 use Prim.Native.Nat.{◌-◌}
-use borrow.Author.Rules.{rules}
 use Rattle.cells.specs.Text.{frees}
 use Rattle.model.specs.Lists.{same}
 use Rattle.stands.specs.Stands.{from}
-use Rattle.stands.proofs.Steps.{free_end, free_no_head, free_no_rest, free_on}
 use Rattle.stands.proofs.free_from.Given as goal
 
 abbrev pub invariant-loop-i : goal.invariant-loop-i

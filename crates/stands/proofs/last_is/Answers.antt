@@ -2,12 +2,10 @@
 -- Assumes nothing.
 use mathlib.Core.Bool.{not}
 use mathlib.Core.Path.{ap}
-use Prim.Native.Nat.{◌-◌}
 use mathlib.Core.Path.{refl}
 use mathlib.Core.List.{append-nil}
 use native.Mathlib.Omega.{arith}
-use borrow.Author.Rules.{rules}
-use Rattle.stands.proofs.Steps.{Compared, compared_start, compared_end, last_no, last_on}
+use Rattle.stands.proofs.Steps.{compared_start, compared_end, last_no, last_on}
 use Rattle.stands.proofs.last_is.Goals as goal
 
 -- loop-holds

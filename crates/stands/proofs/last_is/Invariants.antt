@@ -1,11 +1,7 @@
 -- `stands::last_is` meets its contract. The invariant: the cells from `k` to `i` stand, and nothing is below them.
 -- Assumes nothing.
 use Prim.Native.Nat.{◌-◌}
-use mathlib.Core.Path.{refl}
-use mathlib.Core.List.{append-nil}
-use native.Mathlib.Omega.{arith}
-use borrow.Author.Rules.{rules}
-use Rattle.stands.proofs.Steps.{Compared, compared_start, compared_end, last_no, last_on}
+use Rattle.stands.proofs.Steps.{Compared}
 use Rattle.stands.proofs.last_is.Given as goal
 
 abbrev pub invariant-loop-i : goal.invariant-loop-i

@@ -1,6 +1,5 @@
 -- `stands::leaf_is` meets its contract.
 -- Assumes nothing.
-use borrow.Author.Rules.{rules}
 use Rattle.stands.proofs.leaf_is.Goals as goal
 
 pub returns : goal.returns

@@ -1,6 +1,5 @@
 -- `stands::one_is` meets its contract.
 -- Assumes nothing.
-use borrow.Author.Rules.{rules}
 use Rattle.stands.proofs.Steps.{one_full, one_head}
 use Rattle.stands.proofs.one_is.Goals as goal
 

@@ -6,7 +6,6 @@ use mathlib.Core.List.{append-nil}
 use native.Mathlib.Omega.{arith}
 use lib.ListN.{length, take}
 use lib.Seq.{length-take-le}
-use borrow.Author.Rules.{rules}
 use Rattle.model.specs.Rules.{ends as ends_of}
 use Rattle.rows.specs.Rows.{field_at}
 use Rattle.stands.proofs.run_is.Goals as goal

@@ -4,8 +4,7 @@ use mathlib.Core.Bool.{not}
 use mathlib.Core.Path.{ap}
 use mathlib.Core.Path.{refl}
 use native.Mathlib.Omega.{arith}
-use borrow.Author.Rules.{rules}
-use Rattle.stands.proofs.Steps.{Going, going_start, going_end, going_full, going_no, going_on}
+use Rattle.stands.proofs.Steps.{going_start, going_end, going_full, going_no, going_on}
 use Rattle.stands.proofs.run_of.Goals as goal
 
 -- loop-holds

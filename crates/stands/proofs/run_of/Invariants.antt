@@ -1,9 +1,6 @@
 -- `stands::run_of` meets its contract. The invariant: the cells from `k` to `next` have the ends from the `i`-th on.
 -- Assumes nothing.
-use mathlib.Core.Path.{refl}
-use native.Mathlib.Omega.{arith}
-use borrow.Author.Rules.{rules}
-use Rattle.stands.proofs.Steps.{Going, going_start, going_end, going_full, going_no, going_on}
+use Rattle.stands.proofs.Steps.{Going}
 use Rattle.stands.proofs.run_of.Given as goal
 
 abbrev pub invariant-loop-i : goal.invariant-loop-i

@@ -2,11 +2,9 @@
 -- Assumes nothing.
 use mathlib.Core.Bool.{not}
 use mathlib.Core.Path.{ap}
-use Prim.Native.Nat.{◌≤◌, ◌-◌}
 use borrow.Author.Rules.{rules}
 use native.Mathlib.Omega.{arith}
 use Rattle.model.proofs.Grid.{row_ends}
-use Rattle.table.specs.Rows.{Blank}
 use Rattle.table.proofs.Laws.{says_yes, says_no, said_yes, said_no, blank_on, blank_not}
 use Rattle.table.proofs.blank.Goals as goal
 

@@ -1,11 +1,7 @@
 -- `table::blank` meets its contract. The invariant: every row so far is blank.
 -- Assumes nothing.
 use Prim.Native.Nat.{◌≤◌, ◌-◌}
-use borrow.Author.Rules.{rules}
-use native.Mathlib.Omega.{arith}
-use Rattle.model.proofs.Grid.{row_ends}
 use Rattle.table.specs.Rows.{Blank}
-use Rattle.table.proofs.Laws.{says_yes, says_no, said_yes, said_no, blank_on, blank_not}
 use Rattle.table.proofs.blank.Given as goal
 
 abbrev pub invariant-loop-p : goal.invariant-loop-p

@@ -1,6 +1,5 @@
 -- `worst::worst` meets its contract: what is said of the kind that word 2 names, where the record began with zeros.
 -- Assumes nothing.
-use borrow.Author.Rules.{rules}
 use mathlib.Core.Path.{refl}
 use Rattle.worst.proofs.worst.Goals as goal
 

@@ -1,14 +1,10 @@
 -- `worst::worst_in` meets its contract: 9 where the check fails, and else what the search tells.
 -- Assumes nothing.
-use borrow.Author.Rules.{rules}
-use borrow.Author.Tests.{not-true, not-false}
 use Prim.Native.Nat.{ℕ, ◌≤◌}
 use mathlib.Core.Path.{◌≡◌, sym, ◌∙◌}
-use mathlib.Core.List.{List}
 use mathlib.Core.Bool.{true}
 use native.Mathlib.Omega.{arith}
 use lib.ListN.{get_or}
-use Rattle.model.specs.Table.{Kind, Shaped}
 use Rattle.table.specs.Rows.{kind_of}
 use Rattle.layout.specs.Store.{cells_in, passes}
 use Rattle.layout.proofs.Parts.{part_here}
