@@ -1,4 +1,6 @@
 // A lookup with no store, for the service laptop: a scan through a lent list of rule records, which may hold any numbers. It copies no list and changes no record.
+#![tactic(auto)]
+
 ghost use Rattle.std.specs.Prelude.{◌≡◌, ◌&&◌, leb};
 ghost use Rattle.ipv4.specs.Rule.{given};
 ghost use Rattle.scan.specs.Scan.{holds_packet, scan_values, started, precedes_lead, stepped, finished};
