@@ -1,4 +1,6 @@
 // A list of edits as a C caller lends it, and the same list as numbers, for the calls on a store. A list that is longer than 32 is not gone through.
+#![tactic(auto)]
+
 ghost use Rattle.std.specs.Prelude.{◌≡◌, ◌<◌, replicate};
 ghost use Rattle.gather.specs.Gather.{taken as taken_of, stepped, gathered};
 
