@@ -1,4 +1,6 @@
 // Writing a classic capture file into lent bytes: its header, and a record behind what stands there. Numbers stand in it with the least significant byte first, whatever the machine.
+#![tactic(auto)]
+
 ghost use Rattle.std.specs.Prelude.{◌≡◌, ◌+◌, ◌≤◌, length};
 ghost use Rattle.std.proofs.Math.Seq.{paste};
 ghost use Rattle.writing.specs.Writing.{little_bytes, begin_says, begin_leaves, add_says, add_leaves};
