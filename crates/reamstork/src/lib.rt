@@ -1,4 +1,6 @@
 // The C face of the library, as include/reamstork.h declares it: exported functions and nothing else. Each says, for every input, what it returns and what every lent word then holds.
+#![tactic(auto)]
+
 ghost use Rattle.std.specs.Prelude.{◌≡◌, [], ◌∷◌, map};
 ghost use Rattle.model.specs.Table.{start_action};
 ghost use Rattle.model.specs.Ipv4.{large, kind_in};
