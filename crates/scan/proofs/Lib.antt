@@ -1,4 +1,3 @@
 pub mod Steps
 pub mod Least
 pub mod Through
-pub mod Passed
