@@ -58,9 +58,9 @@ overflow_cast-tops c = omega (arith, c.requires)
 pub blocks_of-reads-requires : goal.blocks_of-reads-requires
 blocks_of-reads-requires c =
     let h = c.requires.0 in
-    let b = c.check_in.kept in
+    let b = c.check_in.auto in
     let g = scratch_few (suc (get_or c.args.image.now 1 0)) c.requires.1 (omega (arith, ((let h_sound : SoundImage (kind_of c.args.tops.now c.args.shape) c.args.image.now = its (kind_of c.args.tops.now c.args.shape) c.requires.0 c.args.image.now ((let h_passed : image_passes (kind_of c.args.tops.now c.args.shape) c.args.image.now ≡ true = sym c.check_in.ensures ∙ c.if-not-check_in.false in h_passed)) in h_sound)).few)) in
-    (omega (arith, ((let h_sound : SoundImage (kind_of c.args.tops.now c.args.shape) c.args.image.now = its (kind_of c.args.tops.now c.args.shape) c.requires.0 c.args.image.now ((let h_passed : image_passes (kind_of c.args.tops.now c.args.shape) c.args.image.now ≡ true = sym c.check_in.ensures ∙ c.if-not-check_in.false in h_passed)) in h_sound)).few, h.few), omega (arith, h.ends, h.narrow), h.narrow, record { places = omega (arith, g.places, b.1.1.1.0); room = omega (arith, g.room, b.1.1.1.1.0) }, c.requires.2)
+    (omega (arith, ((let h_sound : SoundImage (kind_of c.args.tops.now c.args.shape) c.args.image.now = its (kind_of c.args.tops.now c.args.shape) c.requires.0 c.args.image.now ((let h_passed : image_passes (kind_of c.args.tops.now c.args.shape) c.args.image.now ≡ true = sym c.check_in.ensures ∙ c.if-not-check_in.false in h_passed)) in h_sound)).few, h.few), omega (arith, h.ends, h.narrow), h.narrow, record { places = omega (arith, g.places, b.sets); room = omega (arith, g.room, b.ends) }, c.requires.2)
 
 pub shape_of-sets : goal.shape_of-sets
 shape_of-sets c = omega (arith, c.sets-2-1.given, c.sets-1.given)
