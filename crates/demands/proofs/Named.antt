@@ -13,7 +13,7 @@ use Rattle.model.specs.Rules.{holds}
 use Rattle.model.specs.Table.{Kind, Rule, number_of, fields}
 use Rattle.model.proofs.Tests.{by_test, never}
 use Rattle.scan.specs.Scan.{first_least}
-use Rattle.scan.proofs.Least.{one_more}
+use Rattle.scan.proofs.Least.{lower, one_more}
 use Rattle.demands.specs.Calls.{HoldsAll}
 use Rattle.demands.specs.Scan.{Decides}
 use Rattle.demands.proofs.Fields.{all_held, held_all}
@@ -56,8 +56,8 @@ module _ (k : Kind) (vs : List ℕ) where
   goes_behind [] r s e = inl (e ∙ simp (le-leb r.number r.number (omega arith)), λ x m a. absurd m)
   goes_behind (x ∷ rs) r s e = by_test (test x)
       (λ h. let f = (rw h at e) ∙ sym (one_more r x (keep test rs)) in by_test (ltb x.number r.number)
-      (λ t. overtaken (all_held k vs x h) (ltb-true x.number r.number t) (goes_behind rs x s (rw t at f)))
-      (λ t. passed_by (λ a. ltb-false x.number r.number t) (goes_behind rs r s (rw t at f))))
+      (λ t. let q : lower r x ≡ x = rw t in overtaken (all_held k vs x h) (ltb-true x.number r.number t) (goes_behind rs x s (subst (λ (y : Rule). s ≡ least number_of y (y ∷ keep test rs)) q f)))
+      (λ t. let q : lower r x ≡ r = rw t in passed_by (λ a. ltb-false x.number r.number t) (goes_behind rs r s (subst (λ (y : Rule). s ≡ least number_of y (y ∷ keep test rs)) q f))))
       (λ h. passed_by (λ a. absurd (out x h a)) (goes_behind rs r s (rw h at e)))
     where
       overtaken : H x → x.number < r.number → Behind x rs s → Behind r (x ∷ rs) s

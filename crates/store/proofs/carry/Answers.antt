@@ -34,5 +34,5 @@ returns c =
     let old = a.from.now in
     let new = kind_of large.tops c.shape.result in
     let g = named c.is_large.result _ c.shape-old.ensures old c.is_large.ensures in
-    subst (λ (q : Kind). (c.carry.result ≡ carry_says (kind_in old) q old a.words.now a.c) × (c.carry.new.sets ≡ carry_words (kind_in old) q old a.words.now a.c)) c.shape.ensures
-    (subst (λ (j : Kind). (c.carry.result ≡ carry_says j new old a.words.now a.c) × (c.carry.new.sets ≡ carry_words j new old a.words.now a.c)) g c.carry.ensures)
+    subst (λ (q : Kind). (c.carry.result ≡ carry_says (kind_in old) q old a.words.now a.c) × (c.carry.new.words ≡ carry_words (kind_in old) q old a.words.now a.c)) c.shape.ensures
+    (subst (λ (j : Kind). (c.carry.result ≡ carry_says j new old a.words.now a.c) × (c.carry.new.words ≡ carry_words j new old a.words.now a.c)) g c.carry.ensures)
