@@ -6,11 +6,13 @@
 ghost use Rattle.std.specs.Prelude.{◌≡◌, ◌≤◌, length};
 ghost use Rattle.listing.specs.Records.{length_of};
 
+use arrayvec::ArrayString;
 use capture::Opened;
 use keeping::Asked;
 use listing::Read;
 use octets::Order;
 use std::env::{Env, FillError};
+use std::fmt::Write as _;
 use std::io;
 use std::io::Write;
 
@@ -66,10 +68,21 @@ fn put_out<E: Eprint, W: Write>(rt: &E, output: &mut W, bytes: &[u8]) -> bool {
     match output.write_all(bytes) {
         Ok(()) => true,
         Err(e) => {
-            let _ = eprintln!(rt; "keep: write: {e}");
+            say_why(rt, e);
             false
         }
     }
+}
+
+// Says why a write failed, in the system's words: what stands before its number.
+fn say_why(rt: &impl Eprint, error: io::Error) {
+    let mut text = ArrayString::<256>::new();
+    let _ = write!(text, "{error}");
+    let words = match text.as_str().split_once(" (os error ") {
+        Some((words, _)) => words,
+        None => text.as_str(),
+    };
+    let _ = eprintln!(rt; "keep: write: {words}");
 }
 
 // Writes the header of the new capture.
