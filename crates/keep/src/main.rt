@@ -74,15 +74,20 @@ fn put_out<E: Eprint, W: Write>(rt: &E, output: &mut W, bytes: &[u8]) -> bool {
     }
 }
 
-// Says why a write failed, in the system's words: what stands before its number.
+// Says why a write failed, in the system's words.
 fn say_why(rt: &impl Eprint, error: io::Error) {
     let mut text = ArrayString::<256>::new();
     let _ = write!(text, "{error}");
-    let words = match text.as_str().split_once(" (os error ") {
-        Some((words, _)) => words,
-        None => text.as_str(),
-    };
+    let words = before_number(text.as_str());
     let _ = eprintln!(rt; "keep: write: {words}");
+}
+
+// What an error's text says before the system's number for it.
+fn before_number(text: &str) -> &str {
+    match text.split_once(" (os error ") {
+        Some((words, _)) => words,
+        None => text,
+    }
 }
 
 // Writes the header of the new capture.
