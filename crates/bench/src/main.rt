@@ -3,26 +3,28 @@
 // Only reading, printing and the loop are here. What the store holds is said by `rules`, what the bytes of a capture are is said by `capture`, what was read of a record and its line by `listing`, and what a packet gets by `lookup`. Memory is the same for a capture of any size.
 #![tactic(auto)]
 
-ghost use Rattle.std.specs.Prelude.{◌≡◌, ◌≤◌, length};
+ghost use Rattle.std.specs.Prelude.{◌≡◌, ◌≤◌, length, IfOk};
 ghost use Rattle.bench.specs.Room.{staying};
 ghost use Rattle.listing.specs.Records.{length_of};
 
 use capture::Opened;
-use libc::{STDIN_FILENO, STDOUT_FILENO};
 use listing::Read;
 use octets::Order;
+use std::io;
+use std::io::Write;
 
-fn main() {
+fn main(rt: HostRuntime) -> io::Result<()> {
     let mut words = [0u32; 16384];
     rules::fill(&mut words);
+    let mut input = rt.reader();
+    let mut output = io::writer(&rt);
     let mut head = [0u8; 24];
-    let got = io::read_full(STDIN_FILENO, &mut head);
+    let got = stream::read_full(&mut input, &mut head);
     let Opened::Capture(order) = capture::open(&head[..got]) else {
-        io::write_all(STDOUT_FILENO, b"refused 12\n");
-        return;
+        return output.write_all(b"refused 12\n");
     };
-    io::write_all(STDOUT_FILENO, b"packet answer rule action reads\n");
-    list(&words, order);
+    output.write_all(b"packet answer rule action reads\n")?;
+    list(&words, order, &mut input, &mut output)
 }
 
 // Room for the longest record that is listed.
@@ -32,58 +34,66 @@ fn longest() -> [u8; 16384]
     [0; 16384]
 }
 
+// Room for the lines that are not written yet.
+fn room() -> [u8; 4096]
+    ensures { 4096 ≡ length result }
+{
+    [0; 4096]
+}
+
 // Writes a line for each record, and the last line. A proved loop has to end, and nothing says that the input does: so the loop stops at a number of records that no run comes to.
-fn list(words: &[u32], order: Order) {
+fn list<R: io::Read, W: Write>(
+    words: &[u32],
+    order: Order,
+    input: &mut R,
+    output: &mut W,
+) -> io::Result<()> {
     let mut bytes = longest();
-    let mut lines = io::buffer();
+    let mut lines = room();
     let mut used: usize = 0;
     let mut place: u64 = 0;
     while place < u64::MAX {
-        match read_record(order, &mut bytes) {
+        match read_record(order, input, &mut bytes) {
             Read::End(ending) => {
-                io::write_all(STDOUT_FILENO, &lines[..used]);
-                print_end(place, ending);
-                return;
+                output.write_all(&lines[..used])?;
+                return print_end(output, place, ending);
             }
             Read::Record(n) => {
                 place += 1;
                 let found = lookup::lookup_packet(words, &bytes[..n]);
-                used = make_room(&lines, used);
+                used = make_room(output, &lines, used)?;
                 used = listing::put_line(&mut lines, used, place, found);
             }
         }
     }
+    Ok(())
 }
 
 // Reads the next record: what there is of its header, and then of its data. A read that fails counts as the end of the input.
-fn read_record(order: Order, bytes: &mut [u8]) -> Read
+fn read_record<R: io::Read>(order: Order, input: &mut R, bytes: &mut [u8]) -> Read
     requires { length bytes.old ≡ 16384 }
     ensures { length_of result ≤ 16384 }
 {
     let mut head = [0u8; 16];
-    let got = io::read_full(STDIN_FILENO, &mut head);
+    let got = stream::read_full(input, &mut head);
     let n = listing::wanted(order, &head[..got]);
-    let data = io::read_full(STDIN_FILENO, &mut bytes[..n]);
+    let data = stream::read_full(input, &mut bytes[..n]);
     listing::read_of(order, &head[..got], data)
 }
 
 // Writes the lines where the next one might not fit, and answers how many bytes stay.
-fn make_room(lines: &[u8], used: usize) -> usize
+fn make_room<W: Write>(output: &mut W, lines: &[u8], used: usize) -> io::Result<usize>
     requires { (length lines.now ≡ 4096) × (used ≤ 4096) }
-    ensures { (result ≤ 3991) × (result ≡ staying used) }
+    ensures { IfOk result (λ n. (n ≤ 3991) × (n ≡ staying used)) }
 {
     if used <= 3991 {
-        return used;
+        return Ok(used);
     }
-    io::write_all(STDOUT_FILENO, &lines[..used]);
-    0
+    output.write_all(&lines[..used])?;
+    Ok(0)
 }
 
 // Writes the last line: how many records were listed, and how the list ended.
-fn print_end(listed: u64, ending: u64) {
-    io::write_all(STDOUT_FILENO, b"end ");
-    io::print_decimal(STDOUT_FILENO, listed);
-    io::write_all(STDOUT_FILENO, b" ");
-    io::print_decimal(STDOUT_FILENO, ending);
-    io::write_all(STDOUT_FILENO, b"\n");
+fn print_end<W: Write>(output: &mut W, listed: u64, ending: u64) -> io::Result<()> {
+    writeln!(output, "end {listed} {ending}")
 }

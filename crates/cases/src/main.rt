@@ -4,8 +4,9 @@
 
 ghost use Rattle.std.specs.Prelude.{◌≡◌, true, ◌≤◌, length};
 
-use libc::{STDIN_FILENO, STDOUT_FILENO};
 use script::Case;
+use std::io;
+use std::io::Write;
 
 // There are two stores, with room for 16,384 words each: the one in hand begins at a word and has so many words, as has the one aside.
 #[derive(Clone, Copy)]
@@ -23,18 +24,20 @@ struct Tally {
     differ: u64,
 }
 
-fn main() {
+fn main(rt: HostRuntime) -> io::Result<()> {
     let mut text = [0u8; 262144];
     let mut words = [0u32; 32768];
-    let n = io::read_full(STDIN_FILENO, &mut text);
-    let t = run(&text[..n], &mut words);
-    say(b"cases ", t.cases);
-    say(b" differ ", t.differ);
-    io::write_all(STDOUT_FILENO, b"\n");
+    let mut input = rt.reader();
+    let mut output = io::writer(&rt);
+    let n = stream::read_full(&mut input, &mut text);
+    let t = run(&text[..n], &mut words, &mut output)?;
+    say(&mut output, "cases ", t.cases)?;
+    say(&mut output, " differ ", t.differ)?;
+    output.write_all(b"\n")
 }
 
 // Runs every line of a text.
-fn run(text: &[u8], words: &mut [u32]) -> Tally
+fn run<W: Write>(text: &[u8], words: &mut [u32], output: &mut W) -> io::Result<Tally>
     requires { length words.old ≡ 32768 }
 {
     let mut hand = Hand {
@@ -52,13 +55,13 @@ fn run(text: &[u8], words: &mut [u32]) -> Tally
         let end = script::line_end(text, at);
         let k = script::read(&text[at..end]);
         hand = moved(k, hand);
-        tally = judged(k, answers(k, words, hand), tally);
+        tally = judged(k, answers(k, words, hand), tally, output)?;
         if text.len() <= end {
-            return tally;
+            return Ok(tally);
         }
         at = end + 1;
     }
-    tally
+    Ok(tally)
 }
 
 // The store in hand for a call: one of so many words, or the one that was aside.
@@ -114,23 +117,23 @@ fn both(words: &[u32], hand: Hand) -> [u32; 16]
 }
 
 // The tally with a line more. A line is written where its call answers something else than is wanted. An empty line, and one whose first word is '#', has no case.
-fn judged(k: Case, got: [u32; 16], before: Tally) -> Tally {
+fn judged<W: Write>(k: Case, got: [u32; 16], before: Tally, output: &mut W) -> io::Result<Tally> {
     let mut t = before;
     t.lines = more(t.lines);
     if k.code == 0 {
-        return t;
+        return Ok(t);
     }
     if k.code == 35 {
-        return t;
+        return Ok(t);
     }
     t.cases = more(t.cases);
     let wanted = k.wanted;
     if same(&got, &wanted) {
-        return t;
+        return Ok(t);
     }
-    tell(t.lines, got);
+    tell(output, t.lines, got)?;
     t.differ = more(t.differ);
-    t
+    Ok(t)
 }
 
 // One more, as far as a number can count.
@@ -159,18 +162,17 @@ fn same(a: &[u32], b: &[u32]) -> bool
 }
 
 // Writes the number of a line and the numbers that its call answers.
-fn tell(line: u64, got: [u32; 16]) {
-    say(b"line ", line);
+fn tell<W: Write>(output: &mut W, line: u64, got: [u32; 16]) -> io::Result<()> {
+    say(output, "line ", line)?;
     let mut i: usize = 0;
     while i < 16 {
-        say(b" ", got[i] as u64);
+        say(output, " ", got[i] as u64)?;
         i += 1;
     }
-    io::write_all(STDOUT_FILENO, b"\n");
+    output.write_all(b"\n")
 }
 
 // Writes some words and a number.
-fn say(words: &[u8], n: u64) {
-    io::write_all(STDOUT_FILENO, words);
-    io::print_decimal(STDOUT_FILENO, n);
+fn say<W: Write>(output: &mut W, words: &str, n: u64) -> io::Result<()> {
+    write!(output, "{words}{n}")
 }

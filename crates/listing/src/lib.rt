@@ -10,6 +10,7 @@ ghost use Rattle.listing.specs.Lines.{item, line_of};
 ghost use Rattle.listing.specs.Records.{wanted_of, read_of, length_of};
 
 use capture::Next;
+use itoa::Buffer;
 use lookup::Found;
 use octets::Order;
 
@@ -71,9 +72,10 @@ fn put(lines: &mut [u8], at: usize, n: u64, behind: u8) -> usize
     requires { at + 21 ≤ length lines.old }
     ensures { (result ≤ at + 21) × (take result lines.new ≡ take at lines.old ++ item n behind) }
 {
-    let mut digits = [0u8; 20];
-    let k = io::decimal(n, &mut digits);
-    octets::copy(&digits[..k], lines, at);
+    let mut digits = Buffer::new();
+    let text = digits.format(n).as_bytes();
+    let k = text.len();
+    octets::copy(text, lines, at);
     lines[at + k] = behind;
     at + k + 1
 }

@@ -1,0 +1,10 @@
+-- Sixteen numbers at most are written.
+-- Assumes nothing.
+use Rattle.std.proofs.Common.{◌-◌, ◌≤◌}
+use Rattle.cases.proofs.tell.Given as goal
+
+abbrev pub invariant-loop-i : goal.invariant-loop-i
+invariant-loop-i g l = l.i ≤ 16
+
+abbrev pub decreases-loop-i : goal.decreases-loop-i
+decreases-loop-i g l = 16 - l.i
