@@ -6,7 +6,7 @@ use native.Mathlib.Omega.{arith}
 use lib.ListN.{length}
 use borrow.Author.Rules.{rules}
 use Rattle.script.proofs.number_at.Goals as goal
-use Rattle.script.proofs.number_at.Goals.{then-d-lt10, else-d-lt10}
+use Rattle.script.proofs.number_at.Goals.{then-d-lt10, else-d-lt10+then-b-eq46}
 
 pub overflow_add-before-in-loop-at : goal.overflow_add-before-in-loop-at
-overflow_add-before-in-loop-at c = (elim c.if-d-lt10.branch [ then-d-lt10 w ↦ omega arith | else-d-lt10 w ↦ omega arith ])
+overflow_add-before-in-loop-at c = (elim c.if-d-lt10.branch [ then-d-lt10 w ↦ omega arith | else-d-lt10+then-b-eq46 w ↦ omega arith ])
