@@ -1,5 +1,4 @@
 -- `calls::call` is safe. Assumes nothing.
-use borrow.Author.Rules.{rules}
 use Rattle.calls.proofs.call.Goals as goal
 
 pub arity-requires : goal.arity-requires

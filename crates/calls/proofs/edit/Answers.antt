@@ -1,5 +1,4 @@
 -- `calls::edit` is safe. Assumes nothing.
-use borrow.Author.Rules.{rules}
 use Rattle.calls.proofs.edit.Goals as goal
 
 pub started-requires : goal.started-requires

@@ -1,5 +1,4 @@
 -- `calls::look` is safe. Assumes nothing.
-use borrow.Author.Rules.{rules}
 use Rattle.calls.proofs.look.Goals as goal
 
 pub read_of-requires : goal.read_of-requires

@@ -1,5 +1,4 @@
 -- `calls::lookup_of` is safe. Assumes nothing.
-use borrow.Author.Rules.{rules}
 use Rattle.calls.proofs.lookup_of.Goals as goal
 
 pub lookup-requires : goal.lookup-requires

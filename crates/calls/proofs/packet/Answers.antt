@@ -3,7 +3,6 @@
 use mathlib.Core.Path.{sym}
 use native.Mathlib.Omega.{arith}
 use lib.Seq.{length-take-le}
-use borrow.Author.Rules.{rules}
 use Rattle.calls.proofs.packet.Goals as goal
 
 pub slice_bounds-packet_of-end : goal.slice_bounds-packet_of-end

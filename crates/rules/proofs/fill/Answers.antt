@@ -1,7 +1,6 @@
 -- `rules::fill` meets its contract: the words are what the start and the two inserts say.
 -- Assumes nothing.
 use mathlib.Core.Path.{ap₂, ◌∙◌}
-use borrow.Author.Rules.{rules}
 use Rattle.rules.specs.Store.{inserted}
 use Rattle.rules.proofs.fill.Goals as goal
 

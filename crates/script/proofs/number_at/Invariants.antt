@@ -1,10 +1,7 @@
 -- `script::number_at` meets its contract. The invariant: the place lies behind the first digit, and the number has 32 bits.
 -- Assumes nothing.
-use mathlib.Core.Logic.{⊎_elim}
 use Prim.Native.Nat.{◌+◌, ◌-◌, ◌≤◌, ◌<◌}
-use native.Mathlib.Omega.{arith}
 use lib.ListN.{length}
-use borrow.Author.Rules.{rules}
 use Rattle.script.proofs.number_at.Given as goal
 
 abbrev pub invariant-loop-at : goal.invariant-loop-at

@@ -1,8 +1,6 @@
 -- `script::pairs` meets its contract. The invariant: the place lies within the line, and no more bytes were put than there is room.
 -- Assumes nothing.
-use mathlib.Core.Path.{◌≡◌}
-use Prim.Native.Nat.{◌-◌, ◌≤◌}
-use lib.ListN.{length}
+use Prim.Native.Nat.{◌-◌}
 use borrow.Author.Rules.{rules}
 use Rattle.script.proofs.pairs.Goals as goal
 

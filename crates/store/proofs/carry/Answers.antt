@@ -1,6 +1,5 @@
 -- `store::carry` meets its contract, by that of the two kinds: the one that the old store names, and that of large stores.
 -- Assumes nothing.
-use borrow.Author.Rules.{rules}
 use mathlib.Core.Path.{◌≡◌, refl, sym, ap, subst, ◌∙◌}
 use mathlib.Core.Bool.{Bool, true, false}
 use Prim.Native.Nat.{◌≤◌}

@@ -1,6 +1,5 @@
 -- `store::delete` meets its contract, by that of the kind that is chosen.
 -- Assumes nothing.
-use borrow.Author.Rules.{rules}
 use mathlib.Core.Path.{◌≡◌, refl, sym, ◌∙◌}
 use mathlib.Core.Bool.{true, false}
 use Rattle.model.specs.Table.{Kind}

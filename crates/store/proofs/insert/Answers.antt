@@ -1,6 +1,5 @@
 -- `store::insert` meets its contract, by that of the kind that is chosen.
 -- Assumes nothing.
-use borrow.Author.Rules.{rules}
 use mathlib.Core.Path.{◌≡◌, refl, sym, ◌∙◌}
 use mathlib.Core.Bool.{true, false}
 use mathlib.Core.Path.{subst}

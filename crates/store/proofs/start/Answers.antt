@@ -1,6 +1,5 @@
 -- `store::start` meets its contract, by that of the kind that is chosen.
 -- Assumes nothing.
-use borrow.Author.Rules.{rules}
 use mathlib.Core.Path.{◌≡◌, refl, subst}
 use Rattle.model.specs.Table.{Kind}
 use mathlib.Core.Bool.{true}
