@@ -64,7 +64,7 @@ help:
 	@echo 'make bench-place               what finding a new rule'"'"'s place costs, in instructions'
 	@echo 'make bench-cells               how many cells tables of several shapes take'
 	@echo 'make mutants                   small wrong changes, and whether the prover refuses them'
-	@echo 'make must-fail                 every must-fail edit, over what is proved already'
+	@echo 'make must-fail                 every must-fail edit, in a copy'
 	@echo 'make edits-list                the list of must-fail edits, docs/EDITS.md'
 
 # The one thing that is not installed from here: Rattle's kit, which has the prover, the compiler and the C library.
@@ -154,10 +154,10 @@ bench-cells: $(X86) tools
 	@tests/c_face cells
 
 mutants: kit
-	@tests/mutants.py
+	@tests/mutants.py --whole
 
 must-fail: kit
-	@tests/must_fail.py --all
+	@tests/must_fail.py --all --whole
 
 edits-list:
 	@tests/must_fail.py --list > docs/EDITS.md.new && mv docs/EDITS.md.new docs/EDITS.md

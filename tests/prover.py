@@ -230,7 +230,7 @@ class Over(Kept):
                     shutil.copytree(self.here / part, copy / part)
             for file, text in texts.items():
                 (copy / file).write_text(text)
-            shutil.copytree(kept, copy / 'kept')
+            shutil.copytree(kept, copy / 'kept', copy_function=linked)
             return run(self.words(copy / 'kept'), copy)
 
     def words(self, kept):
@@ -245,6 +245,16 @@ class Over(Kept):
         words += ['--jobs', '1', '--incremental', kept]
         static = re.search(r'(?m)^%s +staticlib' % self.crate, (ROOT / 'crates.txt').read_text())
         return words + ['--crate-type', 'staticlib'] * bool(static)
+
+
+def linked(one, other):
+    """Gives a file that the prover kept another name: it replaces such a file, and changes none."""
+    try:
+        if one.endswith('.oantt'):
+            return os.link(one, other)
+    except OSError:
+        pass
+    return shutil.copy2(one, other)
 
 
 def run(words, folder):
