@@ -9,7 +9,7 @@ BINDIR ?= $(PREFIX)/bin
 MANDIR ?= $(PREFIX)/share/man
 SECONDS_LONG ?= 3600
 
-# The archive that the compiler writes is for x86-64; that for Arm is made from the same module.
+# The compiler makes both archives, from the same source.
 X86 = target/staticlib/libreamstork.a
 ARM = target/aarch64/libreamstork.a
 ifeq ($(MACHINE),x86_64)
@@ -29,7 +29,7 @@ TOOL_ARCHIVE = $(X86)
 endif
 
 .PHONY: help run keep lib tool install uninstall example test soak bench-speed bench-lists bench-before bench-growth bench-peers bench-stack bench-place bench-cells mutants must-fail edits-list clean kit tools capture
-# Two provers over one target/ would be in each other's way.
+# Two provers over one crate's out/ would be in each other's way.
 .NOTPARALLEL:
 .DELETE_ON_ERROR:
 
@@ -64,7 +64,7 @@ help:
 	@echo 'make bench-place               what finding a new rule'"'"'s place costs, in instructions'
 	@echo 'make bench-cells               how many cells tables of several shapes take'
 	@echo 'make mutants                   small wrong changes, and whether the prover refuses them'
-	@echo 'make must-fail                 every must-fail edit, over what is proved already'
+	@echo 'make must-fail                 every must-fail edit, in a copy'
 	@echo 'make edits-list                the list of must-fail edits, docs/EDITS.md'
 
 # The one thing that is not installed from here: Rattle's kit, which has the prover, the compiler and the C library.
@@ -76,19 +76,19 @@ tools:
 	@tests/tools
 
 # What a crate is built from: its files and those of the crates that it stands on. The folders are among them, so that a file that goes is seen too.
-files = $(shell find $(wildcard $(addprefix crates/,$(1) $(shell sed -n 's/^$(1): *//p' crates.txt))) -name must-fail -prune -o -print)
+files = $(shell find $(wildcard $(foreach crate,$(1) $(shell sed -n 's/^$(1)\( [^:]*\)*: *//p' crates.txt),crates/$(crate)/src crates/$(crate)/specs crates/$(crate)/proofs)) -print)
 
-$(X86): crates.txt $(call files,reamstork)
-	@scripts/prove staticlib reamstork && touch $@
+$(X86): crates.txt scripts/archive-for $(call files,reamstork)
+	@scripts/archive-for x86_64 $@
 
-$(ARM): $(X86) scripts/archive-for
-	@scripts/archive-for aarch64 $(X86) $@
+$(ARM): crates.txt scripts/archive-for $(call files,reamstork)
+	@scripts/archive-for aarch64 $@
 
 target/bin/bench: crates.txt $(call files,bench)
-	@scripts/prove check bench && touch $@
+	@scripts/prove bench run && install -D crates/bench/out/bench $@
 
 target/bin/keep: crates.txt $(call files,keep)
-	@scripts/prove check keep && touch $@
+	@scripts/prove keep run && install -D crates/keep/out/keep $@
 
 keep: target/bin/keep
 	@echo 'the program that keeps the records of one action: target/bin/keep'
@@ -154,13 +154,13 @@ bench-cells: $(X86) tools
 	@tests/c_face cells
 
 mutants: kit
-	@tests/mutants.py
+	@tests/mutants.py --whole
 
 must-fail: kit
-	@rt check && tests/must_fail.py --all
+	@tests/must_fail.py --all --whole
 
 edits-list:
 	@tests/must_fail.py --list > docs/EDITS.md.new && mv docs/EDITS.md.new docs/EDITS.md
 
 clean:
-	rm -rf target
+	rm -rf target crates/*/out

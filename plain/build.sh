@@ -31,15 +31,15 @@ machine() {
 }
 
 # native: makes $dir/library.a, the archive for this machine's processor.  Where
-# $archive is for another one, or NATIVE is set, what scripts/archive-for makes of
-# it stands in its place: emulated, no figure would mean a thing.  Where a
+# $archive is for another one, or NATIVE is set, that of
+# scripts/archive-for for this one stands in its place: emulated, no figure would mean a thing.  Where a
 # function begins in a line of the cache is worth up to a fifth of the shortest
 # figures, so each begins at one.
 native() {
 	if [ "$archive" != "$dir/second.o" ] && { [ "${NATIVE:-}" ] || [ "$(machine "$archive")" != "$(machine "$dir/plain.o")" ]; }; then
-		"$here/../scripts/archive-for" "$(uname -m)" "$archive" "$dir/native.a"
+		"$here/../scripts/archive-for" "$(uname -m)" "$dir/native.a"
 		archive=$dir/native.a
-		echo "Measured is the library's own LLVM module, compiled for this processor ($(uname -m))."
+		echo "Measured is the library's archive for this processor ($(uname -m))."
 	fi
 	cp "$archive" "$dir/library.a"
 	objcopy --set-section-alignment '.text*=64' "$dir/library.a" 2>/dev/null || cp "$archive" "$dir/library.a"

@@ -5,7 +5,7 @@
 #     sh plain/peers.sh plain        plain C in the library's place
 #
 # Where ARCHIVE is for another processor than this machine's, or NATIVE is
-# set, what scripts/archive-for makes of it stands in its place.  CC names the
+# set, that of scripts/archive-for for this one stands in its place.  CC names the
 # compiler (cc), LIBS what else the archive wants to be linked with.  Needs
 # Debian's libdpdk-dev, and exits with 2 where it is not there.
 if ! pkg-config --exists libdpdk 2>/dev/null; then

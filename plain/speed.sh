@@ -6,7 +6,7 @@
 #                                    the measurement itself is good for
 #
 # Where ARCHIVE is for another processor than this machine's, or NATIVE is
-# set, what scripts/archive-for makes of it stands in its place.  CC names the
+# set, that of scripts/archive-for for this one stands in its place.  CC names the
 # compiler (cc), which compiles plain C with -O3; LIBS what else the archive
 # wants to be linked with.  SAMPLES are names of samples from speed.c, where not
 # all are wanted.  Where valgrind is there the instructions of each call are

@@ -3,70 +3,53 @@
 prover refuses.
 
     tests/mutants.py [--crate NAME ..] [--most N] [--seed N] [--only ID ..]
-                     [--list] [--seconds N] [--limit N] [--cut N] [--jobs N]
+                     [--list] [--cut N] [--whole]
 
 A mutant is one small change to a crate's code (mutate.py says which): another
 comparison, sign, constant, variable, callee or order of arguments, or a
-statement left out. It is made in a copy, which is then checked against the
-contracts and proofs as they stand and the built crates of target/rlib: run
-`rt check` first. A mutant that is proved is a hole in a promise, or a program
-that does the same.
+statement left out. It is handed to rt as a must-fail edit, in a copy of the
+repository (prover.py): rt tries it over what a check of its crate proved, and
+where it is still proved there once more from nothing, against the contracts and
+proofs as they stand. A mutant that is proved is a hole in a promise, or a
+program that does the same.
 
 --most is the number of mutants for each crate (0: all; default 8). They are
 spread over its functions, with more from public calls; the seed chooses.
---only checks those that are named, --list names them and checks none.
---seconds ends the run when so much time is used, --limit is the time for one
-copy of a crate, which may hold several mutants (beside.py), --cut the length at
-which an error is cut, --jobs how many copies are checked at once (default: one for
-each processor, at most 4). A program, and the libraries of the program `cases`, are
-left out unless they are named: what it prints is held to a file, not to a contract.
+--only checks those that are named, --list names them and checks none. --cut is
+the length at which an error is cut. With --whole `rt ci` tries them, else
+`rt must-fail`, over what `rt check` kept (must_fail.py says more). A program, and
+the libraries of the program `cases`, are left out unless they are named: what it
+prints is held to a file, not to a contract.
 
 Outcomes:
   fact          refused: the first error is that something does not hold
   shape         refused: the first error is that the proof no longer fits the
                 code, which shows less
-  not compiled  refused before the proof, which shows nothing
-  no verdict    out of time, or the prover could not tell
-  same          proved, and mutants-same.txt says why the program does the same
+  limit         refused only by a limit of the prover, which shows less too
+  not compiled  refused before the proof, which shows nothing; of the few that
+                cannot be written as an edit the same is said
+  not tried     the crate itself is not proved, or the check was cut off
+  same          mutants-same.txt says why the program does the same; it is not tried
   survived      proved
 The last line counts mutants: those refused by the prover and the same ones
-passed, the survivors failed.
+passed, the survivors and those that were not tried failed.
 """
 
 import argparse
 import difflib
 import sys
-import time
 from collections import Counter
 from hashlib import sha256
 
-from beside import Functions, together
 from mutate import Finder, Source, apply
-from prover import JOBS, ROOT, Kit, NotProved, over_baselines
+from prover import BAD, LIMIT, LOST, PROVED, REFUSED, ROOT, SHAPE, Found, as_edit, crates, file_of, tried
 
-OUTCOMES = ('fact', 'shape', 'not compiled', 'no verdict', 'same', 'survived')
+OUTCOMES = ('fact', 'shape', 'limit', 'not compiled', 'not tried', 'same', 'survived')
+NAMES = {REFUSED: 'fact', SHAPE: 'shape', LIMIT: 'limit', BAD: 'not compiled', LOST: 'not tried', PROVED: 'survived'}
 
 
 # Libraries that only a program calls, and whose contracts say only that they are safe.
 OF_A_PROGRAM = ('script', 'calls')
-
-
-class Change:
-    """A mutant as a change to its crate, of those that beside.py puts into one copy."""
-
-    def __init__(self, mutant):
-        self.mutant = mutant
-
-    def function(self, functions):
-        name = self.mutant.function
-        return name if functions.head(name) is not None else None
-
-    def definitions(self):
-        return None
-
-    def wrong(self, functions, name):
-        text = apply(functions.text, self.mutant.edits)
-        return text[functions.head(name):functions.bodies[name][1] + len(text) - len(functions.text)]
 
 
 def difference(old, new):
@@ -117,27 +100,24 @@ def choose(mutants, most, seed):
 
 class Run:
     def __init__(self, options):
-        self.options, self.kit, self.same = options, Kit(), judged()
+        self.options, self.same, self.known = options, judged(), crates()
+        self.files = {c: file_of(c) for c in self.known}
         self.sources = {c: Source((ROOT / 'crates' / c / file).read_text())
-                        for c, file in self.kit.files.items()}
-        self.counts, self.survivors, self.began = {}, [], time.monotonic()
-
-    def late(self):
-        return self.options.seconds and time.monotonic() - self.began > self.options.seconds
+                        for c, file in self.files.items()}
 
     def crates(self):
-        libraries = [c for c in self.kit.deps
-                     if self.kit.files[c] == 'src/lib.rt' and c not in OF_A_PROGRAM]
+        libraries = [c for c in self.known
+                     if self.files[c] == 'src/lib.rt' and c not in OF_A_PROGRAM]
         wanted = self.options.crate or libraries
         for c in wanted:
-            if c not in self.kit.deps:
+            if c not in self.known:
                 sys.exit('no crate %s in crates.txt' % c)
         return wanted
 
     def plan(self):
         unknown, plan = set(self.options.only), {}
         for crate in self.crates():
-            mutants = Finder(crate, self.kit.files[crate], self.sources).all()
+            mutants = Finder(crate, self.files[crate], self.sources).all()
             unknown -= {m.id for m in mutants}
             if self.options.only:
                 chosen = [m for m in mutants if m.id in self.options.only]
@@ -149,70 +129,65 @@ class Run:
             sys.exit('no such mutant: %s' % ' '.join(sorted(unknown)))
         return plan
 
-    def each(self, crate, baseline, group):
-        """Of each mutant of the group the outcome, the line that shows it, and the prover's
-        seconds; nothing when it is late. One that is refused by its shape is seen where it
-        stands, since beside it the other name may be what does not fit."""
-        base = baseline()
-        if self.late():
-            return {}
-        found = together(base, group, self.functions[crate], self.options.limit) if len(group) > 1 else {}
-        facts = {change: what for change, what in found.items() if what[0] == 'fact'}
-        return {change.mutant: facts.get(change) or self.alone(base, change.mutant)
-                for change in group.values()}
-
-    def alone(self, base, m):
-        """A mutant of which a person has said that it does the same passes whether it is proved or
-        refused, so a check of the whole crate would say nothing more."""
+    def texts(self, m):
+        """Its crate's code as it is and as it has it."""
         old = self.sources[m.crate].text
-        new = apply(old, m.edits)
-        return base.judge({self.kit.files[m.crate]: new}, self.options.limit,
-                          whole=change_of(m, old, new) not in self.same)
+        return old, apply(old, m.edits)
 
-    def same_or_survived(self, m):
-        """Of a mutant that is proved: whether it does the same, and why."""
-        old = self.sources[m.crate].text
-        change = change_of(m, old, apply(old, m.edits))
-        return ('same', self.same[change]) if change in self.same else ('survived', '')
+    def label(self, m):
+        return 'mutant_' + sha256(m.id.encode()).hexdigest()[:16]
 
-    def count(self, m, what, first, took):
-        old = self.sources[m.crate].text
-        new = apply(old, m.edits)
-        change = change_of(m, old, new)
-        if what == 'survived':
-            what, first = self.same_or_survived(m)
-        self.counts[m.crate][what] += 1
-        print('%-12s %s (%s, %s; %.0f s) %s' % (what, m.id, m.function, m.kind, took,
-                                                first[:self.options.cut]), flush=True)
-        if what == 'survived':
-            self.survivors.append((m, old, new, change))
+    def add(self, edits, mutants):
+        """Puts the mutants that are to be tried to the edits, {crate: {label: text}}. One of which a
+        person has said that it does the same passes whether it is proved or refused, and is not tried."""
+        for m in mutants:
+            old, new = self.texts(m)
+            edit = as_edit(m.file, old, new)
+            if edit and change_of(m, old, new) not in self.same:
+                edits.setdefault(m.crate, {})[self.label(m)] = edit
+
+    def judged(self, m, found):
+        """What a mutant came to, and what is said of it."""
+        change = change_of(m, *self.texts(m))
+        if change in self.same:
+            return 'same', self.same[change]
+        unwritten = Found(BAD, 'it cannot be written as an edit')
+        what, said = found.get((m.crate, self.label(m)), unwritten)
+        return NAMES[what], said
 
     def all(self, plan):
-        self.counts = {crate: Counter() for crate in plan}
-        self.functions = {crate: Functions(crate, self.kit.files[crate]) for crate in plan}
-        groups = {crate: self.functions[crate].groups(map(Change, mutants))
-                  for crate, mutants in plan.items()}
-        for _, _, found in over_baselines(self.kit, groups, self.each, self.options.jobs):
-            for m, outcome in found.items():
-                self.count(m, *outcome)
+        edits = {}
+        for mutants in plan.values():
+            self.add(edits, mutants)
+        found = tried(edits, self.options.whole) if edits else {}
+        counts, survivors = {crate: Counter() for crate in plan}, []
+        for crate, mutants in plan.items():
+            for m in mutants:
+                what, said = self.judged(m, found)
+                counts[crate][what] += 1
+                print('%-12s %s (%s, %s) %s' % (what, m.id, m.function, m.kind, said[:self.options.cut]), flush=True)
+                survivors += [m] * (what == 'survived')
+        return self.report(counts, survivors)
 
-    def report(self):
+    def report(self, counts, survivors):
         total = Counter()
-        head = ('crate', 'tried') + OUTCOMES
+        head = ('crate', 'chosen') + OUTCOMES
         print('\n| ' + ' | '.join(head) + ' |\n|' + '---|' * len(head))
-        for crate, counts in [*self.counts.items(), ('all', total)]:
-            row = [sum(counts.values())] + [counts[o] for o in OUTCOMES]
+        for crate, of_crate in [*counts.items(), ('all', total)]:
+            row = [sum(of_crate.values())] + [of_crate[o] for o in OUTCOMES]
             print('| ' + ' | '.join([crate, *map(str, row)]) + ' |')
-            if counts is not total:
-                total.update(counts)
-        for m, old, new, change in self.survivors:
+            if of_crate is not total:
+                total.update(of_crate)
+        for m in survivors:
             public = ', A PUBLIC CALL' if m.open else ''
+            old, new = self.texts(m)
             print('\nsurvived: %s, in %s%s' % (m.id, m.function, public))
             print('\n'.join('    ' + x for x in difference(old, new)))
-            print('    in mutants-same.txt, if the program does the same: %s ## why' % change)
-        passed = total['fact'] + total['shape'] + total['same']
-        print('%d passed, %d failed' % (passed, total['survived']))
-        return 1 if total['survived'] or not passed else 0
+            print('    in mutants-same.txt, if the program does the same: %s ## why' % change_of(m, old, new))
+        passed = sum(total[what] for what in ('fact', 'shape', 'limit', 'same'))
+        failed = total['survived'] + total['not tried']
+        print('%d passed, %d failed' % (passed, failed))
+        return 1 if failed or not passed else 0
 
 
 def main():
@@ -221,23 +196,17 @@ def main():
     parser.add_argument('--crate', nargs='+', default=[])
     parser.add_argument('--most', type=int, default=8)
     parser.add_argument('--seed', type=int, default=1)
-    parser.add_argument('--seconds', type=float, default=0)
-    parser.add_argument('--limit', type=float, default=120)
     parser.add_argument('--cut', type=int, default=160)
     parser.add_argument('--list', action='store_true')
     parser.add_argument('--only', nargs='+', default=[])
-    parser.add_argument('--jobs', type=int, default=JOBS)
+    parser.add_argument('--whole', action='store_true')
     run = Run(parser.parse_args())
     plan = run.plan()
     if run.options.list:
         for mutants in plan.values():
             print('\n'.join('%s (%s, %s)' % (m.id, m.function, m.kind) for m in mutants))
         return 0
-    try:
-        run.all(plan)
-    except NotProved as problem:
-        sys.exit(str(problem))
-    return run.report()
+    return run.all(plan)
 
 
 if __name__ == '__main__':

@@ -118,7 +118,7 @@ class Source:
             k += 1
         while w[k] != '{':
             asks |= w[k] == 'requires'
-            k = self.closes[k + 1] + 1
+            k = self.closes[w.index('{', k)] + 1  # a clause may have a name
         self.functions.append(Function(name, public, asks, params, result, k, self.closes[k]))
         return self.closes[k]
 
@@ -129,8 +129,8 @@ class Finder:
     def __init__(self, crate, file, sources):
         self.crate, self.file, self.source = crate, file, sources[crate]
         self.sources, self.w, self.found = sources, self.source.words, []
-        self.imported = dict(re.findall(r'(?m)^use (\w+)::(\w+);', self.source.text))
-        self.imported = {kind: crate for crate, kind in self.imported.items()}
+        self.imported = {kind: crate for crate, kinds in re.findall(r'(?m)^use (\w+)::\{?([\w, ]+)\}?;', self.source.text)
+                         for kind in kinds.split(', ')}
 
     def all(self):
         for name, first, last in self.source.constants:

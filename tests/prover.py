@@ -1,120 +1,48 @@
-"""Puts changed crates to the prover: what mutants.py and must_fail.py share.
+"""Has the prover try changed crates: what mutants.py and must_fail.py share.
 
-A change is checked in a copy of its crate, over a copy of the crate's baseline: a
-folder of modules as the prover has checked them, from which it takes every module
-that the change does not touch. What is refused there is refused; a change that is
-proved there is still to be checked whole.
+The kit tries must-fail edits by itself, those that stand in crates/NAME/must-fail: `rt ci` for
+a whole repository, `rt must-fail` over what `rt check` kept. Each edit is tried over what a check
+of the crate as it stands proved, and what is still proved there is tried again from nothing. So
+the edits that stand elsewhere are put there in a copy of the repository, and rt is run in the copy,
+with as many checks at once as there are processors and memory. Its lines say what each came to.
 
-Where tests/all runs several programs beside each other, each of their provers takes one
-of its slots, and a crate's changes wait until the crate is proved.
+rt calls an edit bad where the prover cannot read the edited text, and takes for that, too, the line
+in which the prover counts what it did not check since a law fell: as where an edit of a definition
+makes a law false on which further laws of specs/ stand. Such an edit is looked at here once more, in
+all that the prover says of it, by the same rule but for these lines.
 """
 
-import fcntl
 import os
-import platform
 import re
 import shutil
-import signal
 import subprocess
 import sys
 import tempfile
-import time
-from concurrent.futures import ThreadPoolExecutor, as_completed
-from contextlib import contextmanager
+from collections import namedtuple
+from concurrent.futures import ThreadPoolExecutor
 from pathlib import Path
 from threading import Lock
 
 ROOT = Path(__file__).resolve().parent.parent
-PARTS = ('src', 'specs', 'proofs')
-JOBS = min(os.cpu_count() or 1, 4)  # a check takes up to 1 GB
-MEMORY, ROOM = '/dev/shm', 2 << 30  # what the copies, baselines and provers' files take is below 1 GB
+# What an edit came to, and what was said of it.
+Found = namedtuple('Found', 'what said')
+REFUSED, SHAPE, LIMIT, PROVED, BAD, LOST = 'refused', 'shape', 'limit', 'NOT REFUSED', 'bad edit', 'not tried'
+
+SAID = re.compile(r'rt: must-fail (\w+)/([\w.-]+)\.edit: (refused, as it must be|NOT REFUSED|BAD EDIT|NOT TRIED)'
+                  r'(?: \((only because a proof file names|only by a limit)[^)]*\))?(?:: (.*))?')
+KINDS = {'refused, as it must be': REFUSED, 'NOT REFUSED': PROVED, 'BAD EDIT': BAD, 'NOT TRIED': LOST}
 # Errors that say that a proof has another shape than the code, rather than that something does not
 # hold. Where it cannot be told, as where a rewrite finds nothing to rewrite, it counts as shape.
-SHAPE = re.compile(r'has no (field )?`|can be named from here|not in scope|parse error|'
-                   r'too (many|few) arguments|this pattern needs a function|this λ.s body is|this λ has|'
-                   r'this tuple has|`rw`: no ')
-
-
-# Set by tests/all for the programs that it runs beside each other: a pipe with a byte for
-# each process that may still begin to work, a file with the crates that are proved, and the
-# folder of their baselines, which these programs share.
-SLOTS, PROVED, BASELINES = 'REAMSTORK_SLOTS', 'REAMSTORK_PROVED', 'REAMSTORK_BASELINES'
-
-
-def temporary():
-    """The folder for temporary files: one in memory, where there is one with room in which
-    programs may run, unless TMPDIR names another. A check writes each module that stands below
-    the crate to a file of its own and removes it, thousands of files, which takes seconds on a
-    disk."""
-    if 'TMPDIR' not in os.environ and os.access(MEMORY, os.W_OK):
-        system = os.statvfs(MEMORY)
-        if system.f_bavail * system.f_frsize >= ROOM and not system.f_flag & os.ST_NOEXEC:
-            return MEMORY
-    return tempfile.gettempdir()
-
-
-TEMPORARY = temporary()
-
-
-class NotProved(Exception):
-    """A crate that is not proved as it stands."""
-
-
-@contextmanager
-def beside():
-    """Makes the slots, the file and the folder, and gives a function that puts a crate's name
-    into the file; '*' stands for all of them."""
-    with tempfile.TemporaryDirectory(prefix='beside-', dir=TEMPORARY) as folder:
-        slots, proved, baselines = (os.path.join(folder, x) for x in ('slots', 'proved', 'baselines'))
-        os.mkdir(baselines)
-        os.mkfifo(slots)
-        pipe = os.open(slots, os.O_RDWR)  # what is in a pipe stays while somebody has it open
-        os.write(pipe, b'.' * JOBS)
-        os.environ.update({SLOTS: slots, PROVED: proved, BASELINES: baselines})
-
-        def put(crate):
-            with open(proved, 'a') as file:
-                file.write(crate + '\n')
-
-        put('')
-        yield put
-        del os.environ[SLOTS], os.environ[PROVED], os.environ[BASELINES]
-        os.close(pipe)
-
-
-@contextmanager
-def locked(path):
-    """Has the file for itself inside, among all programs."""
-    with open(path, 'w') as file:
-        fcntl.flock(file, fcntl.LOCK_EX)
-        yield
-
-
-@contextmanager
-def slot():
-    """Waits for a slot, and has it inside; without tests/all there is no waiting."""
-    if SLOTS not in os.environ:
-        yield
-        return
-    pipe = os.open(os.environ[SLOTS], os.O_RDWR)
-    os.read(pipe, 1)
-    try:
-        yield
-    finally:
-        os.write(pipe, b'.')
-        os.close(pipe)
-
-
-def wait_for(crate):
-    """Waits until the crate is tried, and says whether it is proved then; without tests/all
-    that is not known."""
-    while PROVED in os.environ:
-        with open(os.environ[PROVED]) as file:
-            found = file.read().split('\n')
-        if not {crate, '*'}.isdisjoint(found):
-            return crate in found
-        time.sleep(0.5)
-    return False
+SHAPED = re.compile(r'has no (field )?`|can be named from here|is not in scope|parse error|'
+                    r'too (many|few) arguments|this pattern needs a function|this λ.s body is|this λ has|'
+                    r'this tuple has|`rw`: no ')
+# The line that counts what was not checked, and what rt takes for a text that cannot be read.
+COUNTED = re.compile(r'error: \d+ declarations? that depends? on `')
+ERROR = re.compile(r'(?:\./)?(\S+?):\d+:\d+: error: (?:(`[^`]*`): )?(.*)')
+UNREAD = re.compile(r'is not in scope|has no field|is no name|operand is missing|expected the end|cannot continue')
+# What rt says that somebody who waits wants to see.
+NEWS = re.compile(r'rt: (?!must-fail ).*(trying its must-fail edits|proved|FAILED|is the same|failed|disk|note:|waiting|'
+                  r'tried (once more|from nothing)|refused|\berror\b)|\d+ passed, \d+ failed$|rt: FAILED')
 
 
 def crates():
@@ -123,180 +51,250 @@ def crates():
     for line in (ROOT / 'crates.txt').read_text().splitlines():
         name, colon, deps = line.split('#')[0].partition(':')
         if colon:
-            found[name.strip()] = deps.split()
+            found[name.split()[0]] = deps.split()
     return found
 
 
-class Kit:
-    """Rattle's kit, and the command that checks a crate, as `rt must-fail` has it."""
-
-    def __init__(self):
-        rt = shutil.which('rt')
-        if not rt:
-            sys.exit("Rattle's kit is missing: install it so that the command 'rt' is on the PATH")
-        self.home = Path(rt).resolve().parent.parent
-        self.own = self.home / 'on' / platform.machine()
-        self.deps, self.files = crates(), {}
-        for name in self.deps:
-            main = (ROOT / 'crates' / name / 'src/main.rt').exists()
-            self.files[name] = 'src/main.rt' if main else 'src/lib.rt'
-
-    def command(self, crate, folder):
-        built, own = ROOT / 'target/rlib', self.own / 'rlib'
-        words = [self.own / 'bin/rattle', 'check', '--crate-name', crate,
-                 folder / self.files[crate], '--extern', 'std=%s' % (own / 'std.rlib')]
-        for d in self.deps[crate]:
-            words += ['--extern', '%s=%s' % (d, (built if d in self.deps else own) / (d + '.rlib'))]
-        words += ['-L', 'dependency=%s' % built, '-L', 'dependency=%s' % own]
-        return words + ['--antt-project', self.home / 'logic/antt-project.json',
-                        '--logic-built', self.own / 'logic-built']
+def file_of(crate):
+    """The root file of a crate's code."""
+    main = (ROOT / 'crates' / crate / 'src/main.rt').exists()
+    return 'src/main.rt' if main else 'src/lib.rt'
 
 
-class Baseline:
-    """A crate as it is proved, over which changes to it are checked, each in a copy
-    of its own. What `rt check` left in target/rlib is taken over; what is not
-    there, as for a program, is proved here. The crate itself has to be proved, which is
-    seen here unless the gate has just proved it."""
-
-    def __init__(self, kit, crate, folder, proved):
-        self.kit, self.crate, self.kept = kit, crate, Path(folder) / crate
-        with locked(self.kept.with_suffix('.lock')):
-            if not self.kept.is_dir():
-                self.make(proved)
-
-    def make(self, proved):
-        """Puts the baseline where it is kept once the crate itself is proved."""
-        with tempfile.TemporaryDirectory(dir=self.kept.parent) as folder:
-            made = Path(folder) / self.crate
-            made.mkdir()
-            if not self.take_over(made) or not proved:
-                self.prove(made)
-            made.rename(self.kept)
-
-    def prove(self, made):
-        status, out, _ = run(self.kit.command(self.crate, ROOT / 'crates' / self.crate), made)
-        if status != 0:
-            raise NotProved('%s itself is not proved (run rt check first): %s'
-                            % (self.crate, outcome(status, out)[1]))
-
-    def take_over(self, made):
-        """Whether there are modules to take over."""
-        rlib = ROOT / 'target/rlib' / (self.crate + '.rlib')
-        if not (rlib / 'format').exists() or not (rlib / 'toolchain/checked').is_dir():
-            return False
-        made_by = re.search(r'(?m)^rattle-build (\S+)$', (rlib / 'format').read_text())
-        if made_by:
-            shutil.copytree(rlib / 'toolchain/checked', made / made_by[1].replace('/', '_'))
-        return bool(made_by)
-
-    def check(self, texts, limit=None, whole=False):
-        """The prover's exit status (nothing when out of time), what it printed and how
-        long it took for the crate with these files, {name: text}, in place of its own or beside them. Where
-        `whole` is asked for, every module is proved again."""
-        with tempfile.TemporaryDirectory(prefix='changed-', dir=TEMPORARY) as folder:
-            copy, kept = Path(folder) / self.crate, Path(folder) / 'kept'
-            for part in PARTS:
-                if (ROOT / 'crates' / self.crate / part).is_dir():
-                    shutil.copytree(ROOT / 'crates' / self.crate / part, copy / part)
-            for name, text in texts.items():
-                (copy / name).parent.mkdir(parents=True, exist_ok=True)
-                (copy / name).write_text(text)
-            if not whole:
-                shutil.copytree(self.kept, kept)
-            status, out, took = run(self.kit.command(self.crate, copy),
-                                    None if whole else kept, limit)
-        return status, out.replace(str(copy) + '/', ''), took
-
-    def judge(self, texts, limit=None, whole=True):
-        """The outcome, the line that shows it, and the prover's seconds. What is not
-        refused over the baseline is checked whole, unless that is not asked for."""
-        status, out, took = self.check(texts, limit)
-        if status == 0 and whole:
-            status, out, more = self.check(texts, whole=True)
-            took += more
-        return *outcome(status, out), took
+def below(names):
+    """These crates and those that they stand on."""
+    known = crates()
+    return [crate for crate in known if any(crate == name or crate in known[name] for name in names)]
 
 
-def run(words, kept, limit=None):
-    with slot():
-        began = time.monotonic()
-        status, out = alone(words + (['--incremental', kept] if kept else []), limit)
-        return status, out, time.monotonic() - began
+def copied(to, edits, only):
+    """Copies the repository's crates, those alone that are asked for, with these must-fail edits and
+    no others, {crate: {label: text}}."""
+    lines = (ROOT / 'crates.txt').read_text().splitlines()
+    kept = [line for line in lines if line.split('#')[0].partition(':')[0].split(' ')[0].strip() in only]
+    (to / 'crates.txt').write_text('\n'.join(kept) + '\n')
+    if (ROOT / 'HANDLES').exists():
+        shutil.copy(ROOT / 'HANDLES', to)
+    (to / '.git').mkdir()  # the top of a repository ends there
+    for crate in only:
+        here = to / 'crates' / crate
+        shutil.copytree(ROOT / 'crates' / crate, here, symlinks=True,
+                        ignore=lambda folder, names, top=str(ROOT / 'crates' / crate):
+                        {'out', 'must-fail'} if folder == top else set())
+        if edits.get(crate):
+            (here / 'must-fail').mkdir()
+        for label, text in edits.get(crate, {}).items():
+            (here / 'must-fail' / (label + '.edit')).write_text(text)
 
 
-def alone(words, limit):
-    p = subprocess.Popen(words, stdout=subprocess.PIPE, stderr=subprocess.STDOUT, text=True,
-                         start_new_session=True, env={**os.environ, 'TMPDIR': TEMPORARY})
-    try:
-        out = p.communicate(timeout=limit)[0]
-    except subprocess.TimeoutExpired:
-        return None, ''
-    finally:
-        if p.poll() is None:
-            os.killpg(p.pid, signal.SIGKILL)
-            p.communicate()
-    return p.returncode, out
+def ran(words, folder, hear):
+    """Runs a command of the kit there, gives each of its lines, and says how it ended."""
+    p = subprocess.Popen(words, cwd=folder, stdin=subprocess.DEVNULL, stdout=subprocess.PIPE,
+                         stderr=subprocess.STDOUT, text=True, errors='replace')
+    for line in p.stdout:
+        hear(line.rstrip('\n'))
+    return p.wait()
 
 
-def unwrapped(out):
-    """What was printed, with the line below an error, where a long sentence goes on, behind it. A
-    line that begins a sentence of its own stays."""
-    own = ' |expected type|but this has type|computed as far|on the face'
-    return re.sub(r'(?m)^(.*\berror: .*)\n +(?!%s)' % own, r'\1 ', out)
+def tried(edits, whole):
+    """What each of the edits, {crate: {label: text}}, came to: {(crate, label): Found}. Where `whole`
+    is asked for, `rt ci` tries them, which takes what an earlier `rt ci` on this machine proved of
+    the same files, and proves the rest from nothing; else `rt must-fail`, over what `rt check` kept."""
+    if not shutil.which('rt'):
+        sys.exit("Rattle's kit is missing: install it so that the command 'rt' is on the PATH")
+    found, words = {}, ['rt', 'ci'] if whole else ['rt', 'must-fail', *edits]
+    last, lost, failed = [None], {}, []
+
+    def hear(line):
+        said = SAID.match(line)
+        if said:
+            crate, label, kind, only, more = said.groups()
+            what = KINDS[kind]
+            if what == REFUSED and only:
+                what = LIMIT if only == 'only by a limit' else SHAPE
+            elif what == REFUSED and SHAPED.search(more or ''):
+                what = SHAPE
+            last[0] = (crate, label)
+            found[crate, label] = Found(what, (more or '').strip())
+            return
+        if last[0] and not line.startswith(('rt: ', '== ')) and found[last[0]].what in (BAD, LOST):
+            # the first lines of what the check said
+            here = found[last[0]]
+            if ' error' in line and 'error' not in here.said:
+                found[last[0]] = here._replace(said=(here.said + ' ' + line).strip())
+            return
+        last[0] = None
+        gone = re.match(r'rt: (\w+) NOT PROVED', line)
+        if gone:
+            lost[gone[1]] = line
+        if line.startswith('rt: ') and not re.search(r' is kept: | proved$|trying its must-fail', line):
+            failed.append(line)
+        if NEWS.match(line):
+            print('  ' + line, flush=True)
+
+    with tempfile.TemporaryDirectory(prefix='reamstork-edits-') as folder:
+        top = Path(folder)
+        copied(top, edits, below(edits))
+        ran(words, top, hear)
+        if any(what == LOST for what, _ in found.values()):
+            # as where the machine's memory ran out: what was settled is kept
+            ran(words, top, hear)
+        found.update(once_more(top, {key: edits[key[0]][key[1]] for key, (what, said) in found.items()
+                                     if what == BAD and COUNTED.search(said)}, whole))
+    for crate, labels in edits.items():
+        for label in labels:
+            why = lost.get(crate) or (failed or ['rt said nothing of it'])[-1]
+            found.setdefault((crate, label), Found(LOST, why))
+    return {key: found[key] for key in found if key[1] in edits.get(key[0], {})}
 
 
-def first_error(out):
-    """The first error that is not about a proof which only waits for another;
-    where rattle itself makes the proof, what it says is not proved."""
-    out = unwrapped(out)
-    errors = [x for x in re.findall(r'(?m)^.*\berror\b.*$', out) if 'was not admitted' not in x]
-    errors += re.findall(r'(?m)^note: .*it is not proved that.*$', out)
-    errors += re.findall(r'(?m)^fn \S+ no proof.*$', out)
-    return errors[0] if errors else (out.strip().splitlines() or ['out of time'])[-1]
+# ---- edits that rt takes for unreadable
+
+def once_more(top, edits, whole):
+    """What the edits, {(crate, label): text}, come to by all that the prover says of them."""
+    checks = {crate: (Over if whole else Kept)(top, crate) for crate, _ in edits}
+    with ThreadPoolExecutor(os.cpu_count() if whole else 1) as pool:
+        asked = {key: pool.submit(checks[key[0]].judge, text) for key, text in edits.items()}
+        return {key: result.result() for key, result in asked.items()}
 
 
-def outcome(status, out):
-    """fact, shape, not compiled, no verdict or survived, and the line that shows it."""
+def judged(status, out, changed):
+    """What a check with these changed files shows, by its exit status and all that it printed."""
+    lines, first = out.split('\n'), None
+    for line in lines:
+        at = ERROR.match(line)
+        if not at or COUNTED.search(line):
+            continue
+        if at[1] in changed or at[1].startswith(('src/', 'specs/')):
+            if not at[2] or UNREAD.search(re.sub('`[^`]*`', '', at[3])):
+                return Found(BAD, 'the prover cannot read the edited text: ' + line)
+        if 'was not admitted' not in line:
+            first = first or line
     if status == 0:
-        return 'survived', ''
-    first = first_error(out)
-    if status == 1 and re.search(r'(?m)^logic=not-proved', out):
-        return 'shape' if SHAPE.search(first) else 'fact', first
-    return 'not compiled' if status == 1 else 'no verdict', first
+        return Found(PROVED, 'the crate is proved')
+    if status != 1 or not first or not any(line.startswith('logic=not-proved') for line in lines):
+        return Found(LOST, 'its check ended with status %s' % status)
+    return Found(SHAPE if SHAPED.search(first) else REFUSED, first)
 
 
-class Baselines:
-    """A baseline for each crate, made when it is first asked for."""
+class Kept:
+    """A crate of the copy, checked where it stands over what `rt check` kept."""
 
-    def __init__(self, kit, plan, folder):
-        self.kit, self.folder, self.made = kit, folder, {}
-        self.locks = {crate: Lock() for crate in plan}
+    def __init__(self, top, crate):
+        self.top, self.crate, self.here, self.lock = top, crate, top / 'crates' / crate, Lock()
 
-    def of(self, crate):
-        """The crate's, or NotProved, as often as it is asked for."""
-        with self.locks[crate]:
-            if crate not in self.made:
-                proved = wait_for(crate)
-                try:
-                    self.made[crate] = Baseline(self.kit, crate, self.folder, proved)
-                except NotProved as problem:
-                    self.made[crate] = problem
-        if isinstance(self.made[crate], NotProved):
-            raise self.made[crate]
-        return self.made[crate]
+    def texts(self, edit):
+        """The files that the edit changes, as it has them."""
+        texts, file, old = {}, '', ''
+        for line in edit.splitlines():
+            if line.startswith('file: '):
+                file = line[6:]
+            elif line.startswith('old: '):
+                old = line[5:]
+            elif line.startswith('new:'):
+                text = texts.get(file) or (ROOT / 'crates' / self.crate / file).read_text()
+                texts[file] = text.replace(old, line[4:].removeprefix(' '))
+        return texts
+
+    def judge(self, edit):
+        texts = self.texts(edit)
+        return judged(*self.check(texts), texts)
+
+    def check(self, texts):
+        with self.lock:
+            was = {file: (self.here / file).read_text() for file in texts}
+            try:
+                for file, text in texts.items():
+                    (self.here / file).write_text(text)
+                return run(['rt', 'check'], self.here)
+            finally:
+                for file, text in was.items():
+                    (self.here / file).write_text(text)
 
 
-def over_baselines(kit, plan, one, jobs):
-    """Gives (crate, change, what one(crate, baseline, change) says) for each change
-    of the plan, {crate: changes}, as they are done, up to `jobs` at once. Calling
-    `baseline` gives the crate's, or raises NotProved."""
-    with tempfile.TemporaryDirectory(prefix='baselines-', dir=TEMPORARY) as folder, \
-            ThreadPoolExecutor(jobs) as pool:
-        made = Baselines(kit, plan, os.environ.get(BASELINES, folder))
-        asked = {pool.submit(one, crate, lambda crate=crate: made.of(crate), change):
-                 (crate, change) for crate, changes in plan.items() for change in changes}
-        try:
-            for done in as_completed(asked):
-                yield *asked[done], done.result()
-        finally:
-            pool.shutdown(cancel_futures=True)
+class Over(Kept):
+    """A crate of the copy, checked in a copy of its own over what a check of it as it stands kept, and
+    over the libraries that `rt ci` has just proved there."""
+
+    def check(self, texts):
+        kept = self.here / 'out/once-more'
+        with self.lock:
+            if not kept.is_dir():
+                status, out = run(self.words(kept), self.here)
+                if status:
+                    return None, out
+        with tempfile.TemporaryDirectory(prefix='reamstork-edit-') as folder:
+            copy = Path(folder)
+            for part in ('src', 'specs', 'proofs'):
+                if (self.here / part).is_dir():
+                    shutil.copytree(self.here / part, copy / part)
+            for file, text in texts.items():
+                (copy / file).write_text(text)
+            shutil.copytree(kept, copy / 'kept', copy_function=linked)
+            return run(self.words(copy / 'kept'), copy)
+
+    def words(self, kept):
+        """The command by which rt checks an edit."""
+        kit, known = Path(shutil.which('rt')).resolve().parent.parent, crates()
+        words = [kit / 'bin/rattle', 'check', '--crate-name', self.crate, file_of(self.crate)]
+        words += ['--extern', 'std=%s' % (kit / 'rlibs/std.rlib'), '-L', 'dependency=%s' % (kit / 'rlibs')]
+        for name in known[self.crate]:
+            at = self.top / 'crates' / name / 'out/rlib' if name in known else kit / 'rlibs'
+            words += ['--extern', '%s=%s' % (name, at / (name + '.rlib')), '-L', 'dependency=%s' % at]
+        words += ['--antt-project', kit / 'rattle/logic/antt-project.json', '--logic-built', kit / 'logic_built']
+        words += ['--jobs', '1', '--incremental', kept]
+        static = re.search(r'(?m)^%s +staticlib' % self.crate, (ROOT / 'crates.txt').read_text())
+        return words + ['--crate-type', 'staticlib'] * bool(static)
+
+
+def linked(one, other):
+    """Gives a file that the prover kept another name: it replaces such a file, and changes none."""
+    try:
+        if one.endswith('.oantt'):
+            return os.link(one, other)
+    except OSError:
+        pass
+    return shutil.copy2(one, other)
+
+
+def run(words, folder):
+    p = subprocess.run(words, cwd=folder, stdin=subprocess.DEVNULL, stdout=subprocess.PIPE,
+                       stderr=subprocess.STDOUT, text=True, errors='replace')
+    return p.returncode, p.stdout
+
+
+# ---- a changed file as an edit
+
+def as_edit(file, old, new):
+    """An edit that makes the text `new` of a file's text `old`, or nothing. An edit's texts are of one
+    line each, and the old one stands once in the file. So where the changed lines are more than one, or
+    stand elsewhere too, all from the nearest line above that stands once to the nearest below is
+    written once more, changed and in one line, and what was there is put into a comment."""
+    was, now = old.split('\n'), new.split('\n')
+    first, last = 0, 0
+    shorter = min(len(was), len(now))
+    while first < shorter and was[first] == now[first]:
+        first += 1
+    while last < shorter - first and was[-1 - last] == now[-1 - last]:
+        last += 1
+    end, other = len(was) - last, len(now) - last
+    once = lambda line: line.strip() and '/*' not in line and '*/' not in line and '//' not in line and old.count(line) == 1
+    if end - first == other - first == 1 and once(was[first]):
+        return written(file, [(was[first], now[first])])
+    above, under = first - 1, end
+    while above >= 0 and not once(was[above]):
+        above -= 1
+    while under < len(was) and not once(was[under]):
+        under += 1
+    between = [re.sub(r'//.*', '', line).strip() for line in now[above + 1:other + under - end]]
+    if above < 0 or under == len(was) or '*/' in '\n'.join(was[above:under + 1]):
+        return None
+    return written(file, [(was[above], was[above] + ' ' + ' '.join(filter(None, between)) + ' /*'),
+                          (was[under], '*/ ' + was[under])])
+
+
+def written(file, pairs):
+    lines = ['file: ' + file]
+    for old, new in pairs:
+        lines += ['old: ' + old, 'new: ' + new]
+    return '\n'.join(lines) + '\n'

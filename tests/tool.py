@@ -228,8 +228,7 @@ class Test:
         archive = options.archive or 'target/%s/libreamstork.a' % (
             'aarch64' if arm else 'staticlib')
         if arm and not options.archive and not (ROOT / archive).exists():
-            run(['scripts/archive-for', 'aarch64', 'target/staticlib/libreamstork.a', archive],
-                cwd=ROOT)
+            run(['scripts/archive-for', 'aarch64', archive], cwd=ROOT)
         more = ['-I' + options.include] if options.include else []
         program = 'target/tests/tool'
         if not options.archive:
