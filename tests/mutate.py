@@ -110,8 +110,9 @@ class Source:
         while w[j] in ('extern', 'pub') or w[j].startswith('"'):
             public |= w[j] == 'pub'
             j -= 1
-        name, close = w[i + 1], self.closes[i + 2]
-        params, asks, k = self.named(i + 3, close), False, close + 1
+        name, opens = w[i + 1], self.behind_generics(i + 2)
+        close = self.closes[opens]
+        params, asks, k = self.named(opens + 1, close), False, close + 1
         result = ''
         while w[k] not in ('{', 'requires', 'ensures', 'ghost'):
             result += w[k] if w[k] != '->' else ''
@@ -121,6 +122,15 @@ class Source:
             k = self.closes[w.index('{', k)] + 1  # a clause may have a name
         self.functions.append(Function(name, public, asks, params, result, k, self.closes[k]))
         return self.closes[k]
+
+
+    def behind_generics(self, i):
+        """The place behind the <..> that begins here, or here."""
+        depth = self.words[i] == '<'
+        while depth:
+            i += 1
+            depth += (self.words[i] == '<') - (self.words[i] == '>')
+        return i + (self.words[i] == '>')
 
 
 class Finder:
