@@ -13,7 +13,8 @@ use Rattle.header.specs.declared.Packet.{Packet}
 use Rattle.header.specs.declared.Header.{Header}
 use Rattle.header.specs.declared.Header.TheVariants.{Values, Unreadable, Cut}
 use Rattle.header.specs.Header.{total_length, header_of, answer_of}
-use Rattle.header.specs.Facts.{Faulty, WithinTops, answer_7_when, answer_14_when, within_tops_lem}
+use Rattle.header.specs.Facts.{Faulty, WithinTops}
+use Rattle.header.proofs.Facts.{answer_7_when, answer_14_when, within_tops_lem}
 use Rattle.lookup.specs.declared.Found.{Found}
 use Rattle.lookup.specs.Walk.{refused}
 use Rattle.demands.specs.Calls.{field_count, AboveTop, Bytes}

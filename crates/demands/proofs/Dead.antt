@@ -13,7 +13,8 @@ use Rattle.model.proofs.Keep.{in_left}
 use Rattle.model.proofs.Limits.{distinct, from_every}
 use Rattle.model.proofs.Decide.{winner_in, winner_holds, winner_least}
 use Rattle.header.specs.declared.Packet.{Packet}
-use Rattle.header.specs.Facts.{WithinTops, within_tops_lem}
+use Rattle.header.specs.Facts.{WithinTops}
+use Rattle.header.proofs.Facts.{within_tops_lem}
 use Rattle.layout.specs.Store.{table_of, delete_says, delete_words}
 use Rattle.search.specs.Facts.{Means}
 use Rattle.search.proofs.Topped.{tops_right as in_tops_right, right_tops}

@@ -21,7 +21,8 @@ use Rattle.model.proofs.Edits.{from_added, in_added, from_removed, in_removed, d
 use Rattle.header.specs.declared.Packet.{Packet}
 use Rattle.header.specs.declared.Header.TheVariants.{Values}
 use Rattle.header.specs.Header.{header_of}
-use Rattle.header.specs.Facts.{WithinTops, within_tops_lem}
+use Rattle.header.specs.Facts.{WithinTops}
+use Rattle.header.proofs.Facts.{within_tops_lem}
 use Rattle.ipv4.specs.declared.Rule.{Rule as Given}
 use Rattle.ipv4.specs.Rule.{six, given}
 use Rattle.layout.specs.Store.{cells_in, table_of, start_answer, start_words, insert_says, insert_words, delete_says, delete_words, read_says, read_gives, place_says, place_gives, cells_gives}

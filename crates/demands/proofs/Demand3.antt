@@ -16,7 +16,8 @@ use Rattle.model.proofs.Decide.{reads_each_lem, reads_most, reads_tight}
 use Rattle.header.specs.declared.Packet.{Packet}
 use Rattle.header.specs.declared.Header.TheVariants.{Values}
 use Rattle.header.specs.Header.{header_of}
-use Rattle.header.specs.Facts.{WithinTops, within_tops_lem}
+use Rattle.header.specs.Facts.{WithinTops}
+use Rattle.header.proofs.Facts.{within_tops_lem}
 use Rattle.layout.specs.Store.{size, text, cells_in, table_of, unless, start_words, insert_says, delete_says}
 use Rattle.series.specs.Edits.{inserts, deletes, list_says, list_words}
 use Rattle.lookup.specs.declared.Found.{Found}

@@ -17,7 +17,8 @@ use Rattle.model.proofs.Limits.{from_within}
 use Rattle.header.specs.declared.Packet.{Packet}
 use Rattle.header.specs.declared.Header.TheVariants.{Values}
 use Rattle.header.specs.Header.{header_of}
-use Rattle.header.specs.Facts.{WithinTops, within_tops_lem}
+use Rattle.header.specs.Facts.{WithinTops}
+use Rattle.header.proofs.Facts.{within_tops_lem}
 use Rattle.layout.specs.Store.{size, table_of, unless}
 use Rattle.blocks.specs.Blocks.{pow8, least_from, depth, blocks_up}
 use Rattle.blocks.specs.Sums.{blocks_sum}

@@ -11,7 +11,8 @@ use Rattle.model.specs.Ipv4.{kind_in}
 use Rattle.header.specs.declared.Packet.{Packet}
 use Rattle.header.specs.declared.Header.TheVariants.{Values}
 use Rattle.header.specs.Header.{has_ports, unreadable, packet_of, header_of}
-use Rattle.header.specs.Facts.{Ported, WithinTops, within_tops_lem, portless_when, portless_ports}
+use Rattle.header.specs.Facts.{Ported, WithinTops}
+use Rattle.header.proofs.Facts.{within_tops_lem, portless_when, portless_ports}
 use Rattle.layout.specs.Store.{table_of}
 use Rattle.lookup.specs.declared.Found.{Found}
 use Rattle.lookup.specs.Walk.{lookup_packet}

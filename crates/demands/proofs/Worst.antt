@@ -8,7 +8,7 @@ use Rattle.model.specs.Table.{reads_of}
 use Rattle.model.specs.Ipv4.{kind_in}
 use Rattle.model.proofs.Tests.{by_test, never}
 use Rattle.model.proofs.Decide.{reads_tight}
-use Rattle.header.specs.Facts.{within_tops_lem}
+use Rattle.header.proofs.Facts.{within_tops_lem}
 use Rattle.layout.specs.Store.{table_of, passes}
 use Rattle.search.specs.Facts.{InTops}
 use Rattle.search.proofs.Topped.{tops_right as in_tops_right, right_tops}

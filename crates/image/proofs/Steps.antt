@@ -19,7 +19,7 @@ use Rattle.header.specs.declared.Packet.{Packet}
 use Rattle.header.specs.declared.Header.{Header}
 use Rattle.header.specs.declared.Header.TheVariants.{Values, Unreadable, Cut}
 use Rattle.header.specs.Header.{header_of, answer_of}
-use Rattle.header.specs.Facts.{values_are}
+use Rattle.header.proofs.Facts.{values_are}
 use Rattle.lookup.specs.declared.Found.{Found}
 use Rattle.lookup.specs.declared.Walked.TheVariants.{At, Lost}
 use Rattle.blocks.specs.Blocks.{down_mark}

@@ -2,7 +2,7 @@
 use mathlib.Core.Path.{sym, ◌∙◌}
 use mathlib.Core.Logic.{inl, inr}
 use native.Mathlib.Omega.{arith}
-use Rattle.header.specs.Facts.{unreadable_when, cut_when, not_faulty}
+use Rattle.header.proofs.Facts.{unreadable_when, cut_when, not_faulty}
 use Rattle.header.proofs.Tests.{four, no_room, sound_read, packet_with, packet_without}
 use Rattle.header.proofs.read_header.Goals as goal
 

@@ -1,7 +1,7 @@
 -- `tally::lookup_packet` meets its contract: what is counted is what the lookup by the packet says.
 -- Assumes nothing.
 use Rattle.std.proofs.Common.{sym, ap, ◌∙◌}
-use Rattle.header.specs.Facts.{values_are}
+use Rattle.header.proofs.Facts.{values_are}
 use Rattle.lookup.specs.declared.Found.{Found}
 use Rattle.lookup.specs.Walk.{refused}
 use Rattle.lookup.proofs.Steps.{none_given, no_values, by_values}
