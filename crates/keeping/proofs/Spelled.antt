@@ -4,11 +4,11 @@ use mathlib.Core.Path.{◌≡◌}
 use mathlib.Core.List.{List}
 use Prim.Native.Nat.{ℕ, ◌+◌, ◌-◌, ◌*◌, ◌≤◌, ◌<◌}
 use native.Mathlib.Numerals.{add-one}
-use borrow.Author.Tests.{lt-ltb, le-ltb}
+use borrow.Author.Tests.{lt-ltb, le-ltb, eq-eqb, ne_eqb}
 use lib.ListN.{length, get_or, drop}
 use lib.Seq.{drop-cons, drop-length}
 use Rattle.keeping.specs.declared.Asked.TheVariants.{Action, Nothing}
-use Rattle.keeping.specs.Keep.{spelled}
+use Rattle.keeping.specs.Keep.{spelled, asked_in}
 
 module _ (t : List ℕ) (i v : ℕ) (h : i < length t) where
   pub below : get_or t i 0 < 48 → Nothing ≡ spelled v (drop i t)
@@ -33,3 +33,10 @@ module _ (t : List ℕ) (i v : ℕ) (h : i < length t) where
 pub done : (t : List ℕ) (i v : ℕ) → i ≡ length t → Action v ≡ spelled v (drop i t)
 unfolding spelled
 done t i v e = rw (e, drop-length t)
+
+-- no digit at all, and some byte
+pub empty : (t : List ℕ) → length t ≡ 0 → Nothing ≡ asked_in t
+empty t e = rw (eq-eqb _ _ e)
+
+pub begun : (t : List ℕ) → (length t ≡ 0 → ⊥) → asked_in t ≡ spelled 0 t
+begun t n = rw (ne_eqb _ _ n)

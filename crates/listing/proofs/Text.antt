@@ -38,3 +38,7 @@ put_text l d at n behind w i e =
       rw (add-one (at + k), take-suc-set p (at + k) behind y, take-paste l at d k (omega arith) (omega arith), append_assoc)
           (ap (λ x. take at l ++ (x ++ (behind ∷ []))) (take_all k d (omega arith) ∙ e ∙ printed n w)),
     )
+
+-- five pieces, each put behind what stood before it
+pub joined : (x₀ x₁ x₂ x₃ x₄ x₅ a b c d e : List ℕ) → x₁ ≡ x₀ ++ a → x₂ ≡ x₁ ++ b → x₃ ≡ x₂ ++ c → x₄ ≡ x₃ ++ d → x₅ ≡ x₄ ++ e → x₅ ≡ x₀ ++ (a ++ (b ++ (c ++ (d ++ e))))
+joined x₀ x₁ x₂ x₃ x₄ x₅ a b c d e h₁ h₂ h₃ h₄ h₅ = rw (h₅, h₄, h₃, h₂, h₁) (simp append_assoc)
