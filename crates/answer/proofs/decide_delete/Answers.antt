@@ -8,13 +8,11 @@ use Rattle.layout.proofs.Passed.{sound_room, held}
 use Rattle.answer.proofs.Said.{delete_9, delete_says_lem}
 use Rattle.answer.proofs.decide_delete.Goals as goal
 
--- returns
 pub returns-then-not-check : goal.returns-then-not-check
 returns-then-not-check c =
     let a = c.args in
     (delete_9 (kind_of a.tops.now a.shape) a.words.now a.number (sym c.check.ensures ∙ c.if-not-check.true), λ z. absurd (omega arith))
 
--- part-delete-from-end
 pub slice_bounds-delete_from-end : goal.slice_bounds-delete_from-end
 slice_bounds-delete_from-end c =
     let a = c.args in
@@ -22,7 +20,6 @@ slice_bounds-delete_from-end c =
     let w = sound_room (kind_of a.tops.now a.shape) c.requires.0 a.words.now (sound (kind_of a.tops.now a.shape) c.requires.0 a.words.now h) in
     omega (arith, w.long, c.rows_end-from.ensures.0)
 
--- shared-slice-read-delete-from
 pub bounds-words-1 : goal.bounds-words-1
 bounds-words-1 c =
     let a = c.args in
@@ -30,7 +27,6 @@ bounds-words-1 c =
     let w = sound_room (kind_of a.tops.now a.shape) c.requires.0 a.words.now (sound (kind_of a.tops.now a.shape) c.requires.0 a.words.now h) in
     omega (arith, w.long)
 
--- delete-from-requires
 pub delete_from-requires : goal.delete_from-requires
 delete_from-requires c =
     let a = c.args in
@@ -38,7 +34,6 @@ delete_from-requires c =
     let w = sound_room (kind_of a.tops.now a.shape) c.requires.0 a.words.now (sound (kind_of a.tops.now a.shape) c.requires.0 a.words.now h) in
     held (kind_of a.tops.now a.shape) c.requires.0 a.words.now _ c.rows_end-from.ensures.0 h
 
--- returns-2
 pub returns : goal.returns
 returns c =
     let a = c.args in

@@ -9,13 +9,11 @@ use Rattle.layout.proofs.Passed.{sound_room, held}
 use Rattle.answer.proofs.Said.{insert_9, insert_says_lem}
 use Rattle.answer.proofs.decide_insert.Goals as goal
 
--- returns
 pub returns-then-not-check : goal.returns-then-not-check
 returns-then-not-check c =
     let a = c.args in
     (insert_9 (kind_of a.tops.now a.shape) a.words.now (rule_in (length a.tops.now) a.row.now 0) (sym c.check.ensures ∙ c.if-not-check.true), λ z. absurd (omega arith))
 
--- part-insert-into-end
 pub slice_bounds-insert_into-end : goal.slice_bounds-insert_into-end
 slice_bounds-insert_into-end c =
     let a = c.args in
@@ -23,7 +21,6 @@ slice_bounds-insert_into-end c =
     let w = sound_room (kind_of a.tops.now a.shape) c.requires.0 a.words.now (sound (kind_of a.tops.now a.shape) c.requires.0 a.words.now h) in
     omega (arith, w.long, c.rows_end-from.ensures.0)
 
--- shared-slice-read-insert-into
 pub bounds-words-1 : goal.bounds-words-1
 bounds-words-1 c =
     let a = c.args in
@@ -31,7 +28,6 @@ bounds-words-1 c =
     let w = sound_room (kind_of a.tops.now a.shape) c.requires.0 a.words.now (sound (kind_of a.tops.now a.shape) c.requires.0 a.words.now h) in
     omega (arith, w.long)
 
--- shared-slice-read-insert-into-2
 pub bounds-words-0 : goal.bounds-words-0
 bounds-words-0 c =
     let a = c.args in
@@ -39,7 +35,6 @@ bounds-words-0 c =
     let w = sound_room (kind_of a.tops.now a.shape) c.requires.0 a.words.now (sound (kind_of a.tops.now a.shape) c.requires.0 a.words.now h) in
     omega (arith, w.long)
 
--- insert-into-requires
 pub insert_into-requires : goal.insert_into-requires
 insert_into-requires c =
     let a = c.args in
@@ -47,7 +42,6 @@ insert_into-requires c =
     let w = sound_room (kind_of a.tops.now a.shape) c.requires.0 a.words.now (sound (kind_of a.tops.now a.shape) c.requires.0 a.words.now h) in
     (held (kind_of a.tops.now a.shape) c.requires.0 a.words.now _ c.rows_end-from.ensures.0 h, w.most, c.requires.2, record { places = omega (arith, c.requires.1.places, c.check.auto.sets); room = omega (arith, c.requires.1.room, c.check.auto.ends) })
 
--- returns-2
 pub returns : goal.returns
 returns c =
     let a = c.args in

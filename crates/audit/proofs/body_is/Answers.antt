@@ -9,20 +9,17 @@ use Rattle.layout.proofs.Parts.{scratch_few, part_here}
 use Rattle.audit.proofs.Laws.{body_wrong, body_right}
 use Rattle.audit.proofs.body_is.Goals as goal
 
--- returns
 pub returns-then-not-table_is : goal.returns-then-not-table_is
 returns-then-not-table_is c =
     let a = c.args in
     body_wrong (kind_of a.tops.now a.shape) a.words.now a.c a.n _ c.rows_end-from.ensures.0 _ c.table_is.ensures (ap not c.if-not-table_is.true)
 
--- tree-is-requires
 pub tree_is-requires : goal.tree_is-requires
 tree_is-requires c =
     let a = c.args in
     let h = c.requires.0 in
     (part_here a.c c.rows_end-from.result a.words.now (omega (arith, c.requires.4, c.rows_end-from.ensures.0)), c.requires.3, omega (arith, c.requires.2, h.few), omega (arith, h.ends, h.narrow), h.narrow, scratch_few (suc a.n) c.requires.1 (omega (arith, c.requires.2)))
 
--- returns-2
 pub returns : goal.returns
 returns c =
     let a = c.args in

@@ -8,31 +8,26 @@ use Rattle.table.specs.Rows.{kind_of}
 use Rattle.layout.proofs.Sound.{roomy, check_short, check_room, check_few, check_mark, check_zeros, check_body}
 use Rattle.audit.proofs.check.Goals as goal
 
--- returns
 pub returns-then-words-lt3 : goal.returns-then-words-lt3
 returns-then-words-lt3 c =
     let a = c.args in
     check_short (kind_of a.tops.now a.shape) c.requires.0 a.words.now (omega (arith, c.if-words-lt3.true, c.requires.0.three))
 
--- returns-2
 pub returns-then-not-room_for : goal.returns-then-not-room_for
 returns-then-not-room_for c =
     let a = c.args in
     check_room (kind_of a.tops.now a.shape) c.requires.0 a.words.now c.room_for.ensures (ap not c.if-not-room_for.true)
 
--- returns-3
 pub returns-then-shape-n : goal.returns-then-shape-n
 returns-then-shape-n c =
     let a = c.args in
     check_few (kind_of a.tops.now a.shape) c.requires.0 a.words.now c.if-shape-n.true
 
--- returns-4
 pub returns-then-words-shape : goal.returns-then-words-shape
 returns-then-words-shape c =
     let a = c.args in
     check_mark (kind_of a.tops.now a.shape) c.requires.0 a.words.now c.if-words-shape.true
 
--- zeros-requires
 pub zeros-requires : goal.zeros-requires
 zeros-requires c =
     let a = c.args in
@@ -40,7 +35,6 @@ zeros-requires c =
     let w = roomy (kind_of a.tops.now a.shape) _ a.words.now o in
     (c.requires.0.three, omega (arith, w.long))
 
--- returns-5
 pub returns-then-not-zeros : goal.returns-then-not-zeros
 returns-then-not-zeros c =
     let a = c.args in
@@ -48,7 +42,6 @@ returns-then-not-zeros c =
     let w = roomy (kind_of a.tops.now a.shape) _ a.words.now o in
     check_zeros (kind_of a.tops.now a.shape) c.requires.0 a.words.now o _ c.zeros.ensures (ap not c.if-not-zeros.true)
 
--- body-is-requires
 pub body_is-requires : goal.body_is-requires
 body_is-requires c =
     let a = c.args in
@@ -56,7 +49,6 @@ body_is-requires c =
     let w = roomy (kind_of a.tops.now a.shape) _ a.words.now o in
     (c.requires.0, c.requires.1, c.if-shape-n.false, w.most, w.long)
 
--- returns-6
 pub returns : goal.returns
 returns c =
     let a = c.args in

@@ -5,13 +5,11 @@ use Prim.Native.Nat.{◌+◌}
 use Rattle.layout.proofs.Parts.{scratch_few}
 use Rattle.audit.proofs.tree_is.Goals as goal
 
--- part-is-requires
 pub part_is-requires : goal.part_is-requires
 part_is-requires c =
     let a = c.args in
     let g = scratch_few (a.n + 1) c.requires.5 (omega arith) in
     (c.requires.0, c.requires.1, record { places = omega (arith, g.places, c.places.auto.out); room = g.room }, c.requires.3)
 
--- returns
 pub returns : goal.returns
 returns c = rw c.places.ensures at c.part_is.ensures

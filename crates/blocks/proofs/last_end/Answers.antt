@@ -2,10 +2,8 @@
 use borrow.Author.Tests.{lt-ltb, le-ltb}
 use Rattle.blocks.proofs.last_end.Goals as goal
 
--- returns
 pub returns-then-j-m : goal.returns-then-j-m
 returns-then-j-m c = simp (lt-ltb _ _ c.if-j-m.true)
 
--- returns-2
 pub returns : goal.returns
 returns c = simp (le-ltb _ _ c.if-j-m.false)

@@ -12,7 +12,6 @@ use Rattle.plant.proofs.Planting.{still_long}
 use Rattle.carry.proofs.Carried.{carry_done, carry_kept, goes, carried_bare, carried_room, carried_words}
 use Rattle.carry.proofs.carry.Goals as goal
 
--- decide-carry-requires
 pub decide_carry-answer-requires : goal.decide_carry-answer-requires
 decide_carry-answer-requires c = (c.requires.0, c.requires.1, scratch_few (suc c.args.old.most) c.requires.4 (omega (arith, c.requires.3)))
 
@@ -22,14 +21,12 @@ shape_of-sets-then-answer-ne0 c = omega (arith, c.sets-1.given)
 pub shape_of-ends-then-answer-ne0 : goal.shape_of-ends-then-answer-ne0
 shape_of-ends-then-answer-ne0 c = omega (arith, c.ends-1.given)
 
--- returns
 pub returns-then-answer-ne0 : goal.returns-then-answer-ne0
 returns-then-answer-ne0 c =
     let a = c.args in
     let t = c.decide_carry-answer.ensures in
     (t, carry_kept a.tops.now a.old a.shape a.from.now a.words.now a.c _ t c.if-answer-ne0.true)
 
--- shared-slice-read-n
 pub bounds-from-1 : goal.bounds-from-1
 bounds-from-1 c =
     let a = c.args in
@@ -64,7 +61,6 @@ overflow_add-end-2 c = omega (arith, c.rows_end-start.ensures, c.well_formed)
 pub offset_bounds-words-start : goal.offset_bounds-words-start
 offset_bounds-words-start c = omega (arith, c.rows_end-start.ensures)
 
--- part-clear-end
 pub slice_bounds-clear-end : goal.slice_bounds-clear-end
 slice_bounds-clear-end c =
     let f = c.rows_end-start.ensures.0 in
@@ -73,7 +69,6 @@ slice_bounds-clear-end c =
     let v = goes a.tops.now a.old a.shape c.requires.0 a.from.now a.words.now a.c z in
     omega (arith, f, v.room.long)
 
--- clear-requires
 pub clear-requires : goal.clear-requires
 clear-requires c =
     let f = c.rows_end-start.ensures.0 in
@@ -82,7 +77,6 @@ clear-requires c =
     let v = goes a.tops.now a.old a.shape c.requires.0 a.from.now a.words.now a.c z in
     (part_here a.c c.rows_end-start.result a.words.now (omega (arith, f, v.room.long)), v.room.most)
 
--- slice-relend-prefix-carried
 pub slice_bounds-carried-end : goal.slice_bounds-carried-end
 slice_bounds-carried-end c =
     let f = c.rows_end-start.ensures.0 in
@@ -92,7 +86,6 @@ slice_bounds-carried-end c =
     let l = still_long a.c c.rows_end-start.result a.words.now _ (omega (arith, f, v.room.long)) v.room.most c.clear.ensures in
     omega (arith, l, f, v.room.long)
 
--- slice-aggregate-carried
 pub slice_bounds-carried-end-2 : goal.slice_bounds-carried-end-2
 slice_bounds-carried-end-2 c =
     let f = c.rows_end-start.ensures.0 in
@@ -111,7 +104,6 @@ slice_bounds-carried-count c = omega (arith, c.rows_end-links.ensures)
 pub slice_bounds-carried-start : goal.slice_bounds-carried-start
 slice_bounds-carried-start c = omega (arith, c.rows_end-links.ensures)
 
--- part-carried-end
 pub slice_bounds-carried-end-3 : goal.slice_bounds-carried-end-3
 slice_bounds-carried-end-3 c =
     let a = c.args in
@@ -119,7 +111,6 @@ slice_bounds-carried-end-3 c =
     let v = goes a.tops.now a.old a.shape c.requires.0 a.from.now a.words.now a.c z in
     omega (arith, c.rows_end-links.ensures.0, (sound_room (kind_of a.tops.now a.old) c.requires.0 a.from.now v.old).long)
 
--- carried-requires
 pub carried-requires : goal.carried-requires
 carried-requires c =
     let f = c.rows_end-start.ensures.0 in
@@ -129,7 +120,6 @@ carried-requires c =
     let l = still_long a.c c.rows_end-start.result a.words.now _ (omega (arith, f, v.room.long)) v.room.most c.clear.ensures in
     (search rules, length-take-le _ _ (omega (arith, l, f, v.room.long)) ∙ f)
 
--- plant-requires
 pub plant-requires : goal.plant-requires
 plant-requires c =
     let f = c.rows_end-start.ensures.0 in
@@ -147,7 +137,6 @@ shape_of-sets c = omega (arith, c.sets-2-1.given, c.sets-1.given)
 pub shape_of-ends : goal.shape_of-ends
 shape_of-ends c = omega (arith, c.ends-2-1.given, c.ends-1.given)
 
--- returns-2
 pub returns : goal.returns
 returns c =
     let f = c.rows_end-start.ensures.0 in

@@ -17,7 +17,6 @@ shape_of-sets-then-not-check c = omega (arith, c.sets-1.given)
 pub shape_of-ends-then-not-check : goal.shape_of-ends-then-not-check
 shape_of-ends-then-not-check c = omega (arith, c.ends-1.given)
 
--- returns
 pub returns-then-not-check : goal.returns-then-not-check
 returns-then-not-check c =
     let a = c.args in
@@ -32,7 +31,6 @@ shape_of-sets-then-not-room_for c = omega (arith, c.sets-1.given)
 pub shape_of-ends-then-not-room_for : goal.shape_of-ends-then-not-room_for
 shape_of-ends-then-not-room_for c = omega (arith, c.ends-1.given)
 
--- returns-2
 pub returns-then-not-room_for : goal.returns-then-not-room_for
 returns-then-not-room_for c =
     let a = c.args in
@@ -48,7 +46,6 @@ overflow_cast-links c = omega (arith, c.rows_end-links.ensures)
 pub offset_bounds-from-links : goal.offset_bounds-from-links
 offset_bounds-from-links c = omega (arith, c.rows_end-links.ensures)
 
--- shared-slice-read-if3
 pub bounds-from-links : goal.bounds-from-links
 bounds-from-links c =
     let a = c.args in
@@ -62,7 +59,6 @@ shape_of-sets-then-c-from c = omega (arith, c.sets-1.given)
 pub shape_of-ends-then-c-from : goal.shape_of-ends-then-c-from
 shape_of-ends-then-c-from c = omega (arith, c.ends-1.given)
 
--- returns-3
 pub returns-then-c-from : goal.returns-then-c-from
 returns-then-c-from c =
     let a = c.args in
@@ -76,7 +72,6 @@ shape_of-sets c = omega (arith, c.sets-1.given)
 pub shape_of-ends : goal.shape_of-ends
 shape_of-ends c = omega (arith, c.ends-1.given)
 
--- returns-4
 pub returns : goal.returns
 returns c =
     let a = c.args in

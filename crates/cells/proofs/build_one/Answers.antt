@@ -16,11 +16,9 @@ use Rattle.cells.proofs.build_one.Goals as goal
 pub take_cell-k-requires : goal.take_cell-k-requires
 take_cell-k-requires c = omega (arith, (let h_room : at (first_free (let a = c.args in mid_of a.base (length a.words.now - a.base) a.words.now)) 3 < length (let a = c.args in mid_of a.base (length a.words.now - a.base) a.words.now) = let r = c.requires.1 in lay_room (laying (c.args.end ∷ []) {n = r.more} 1 refl (rw (← lent c.args.base c.args.words.now c.requires.0) at r.state)) (omega arith) in h_room))
 
--- write-cell-requires
 pub write_cell-requires : goal.write_cell-requires
 write_cell-requires c = rw (c.take_cell-k.ensures.1, c.take_cell-k.ensures.0) (simp length-set ((let h_room : at (first_free (let a = c.args in mid_of a.base (length a.words.now - a.base) a.words.now)) 3 < length (let a = c.args in mid_of a.base (length a.words.now - a.base) a.words.now) = let r = c.requires.1 in lay_room (laying (c.args.end ∷ []) {n = r.more} 1 refl (rw (← lent c.args.base c.args.words.now c.requires.0) at r.state)) (omega arith) in h_room)))
 
--- returns
 pub returns : goal.returns
 returns c =
     let e = c.args.end in

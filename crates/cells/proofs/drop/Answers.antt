@@ -12,7 +12,6 @@ free_chain-requires c = let r = c.requires in (r.some, record { a = _; n = _; q 
 pub bounds-words-1-2 : goal.bounds-words-1-2
 bounds-words-1-2 c = let r = c.requires in omega (arith, c.free_chain.auto.words, (part_held r).state.tot)
 
--- returns
 pub returns : goal.returns
 returns c =
     let r = c.requires in

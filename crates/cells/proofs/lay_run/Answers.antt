@@ -6,11 +6,9 @@ use lib.ListN.{length-set}
 use Rattle.cells.proofs.Lay.{Laying, laying, lay_room, lay_built, laid}
 use Rattle.cells.proofs.lay_run.Goals as goal
 
--- loop-holds
 pub loop-i-init : goal.loop-i-init
 loop-i-init c = λ a n q s. laying _ _ refl s
 
--- take-cell-requires
 pub take_cell-k-requires : goal.take_cell-k-requires
 take_cell-k-requires c = omega (arith, lay_room ((let h_so_far : let r = c.requires in Laying c.loop-i.words c.args.ends.now c.loop-i.lowest c.args.c r.a r.more r.q c.loop-i.i = let r = c.requires in c.loop-i.invariant r.a r.more r.q r.state in h_so_far)) c.loop-i-test.true)
 
@@ -20,18 +18,14 @@ offset_bounds-ends-i c = omega (arith, ((let h_so_far : let r = c.requires in La
 pub bounds-ends-i : goal.bounds-ends-i
 bounds-ends-i c = omega (arith, ((let h_so_far : let r = c.requires in Laying c.loop-i.words c.args.ends.now c.loop-i.lowest c.args.c r.a r.more r.q c.loop-i.i = let r = c.requires in c.loop-i.invariant r.a r.more r.q r.state in h_so_far)).most, c.loop-i-test.true)
 
--- write-cell-requires
 pub write_cell-requires : goal.write_cell-requires
 write_cell-requires c = rw (c.take_cell-k.ensures.1, c.take_cell-k.ensures.0) (simp length-set (lay_room ((let h_so_far : let r = c.requires in Laying c.loop-i.words c.args.ends.now c.loop-i.lowest c.args.c r.a r.more r.q c.loop-i.i = let r = c.requires in c.loop-i.invariant r.a r.more r.q r.state in h_so_far)) c.loop-i-test.true))
 
--- loop-again
 pub loop-i-preserved : goal.loop-i-preserved
 loop-i-preserved c = λ a n q s. rw (c.write_cell.ensures, c.take_cell-k.ensures.1, c.take_cell-k.ensures.0) (lay_built (c.loop-i.invariant a n q s) c.loop-i-test.true refl)
 
--- same-length
 pub shape_of-words : goal.shape_of-words
 shape_of-words c = ((let h_so_far : let r = c.requires in Laying c.loop-i.words c.args.ends.now c.loop-i.lowest c.args.c r.a r.more r.q c.loop-i.i = let r = c.requires in c.loop-i.invariant r.a r.more r.q r.state in h_so_far)).rows.state.tot ∙ sym c.requires.state.tot
 
--- returns
 pub returns : goal.returns
 returns c = λ a n q s. laid (c.loop-i.invariant a n q s) c.loop-i-test.false

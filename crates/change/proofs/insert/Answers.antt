@@ -24,14 +24,12 @@ shape_of-sets-then-d-ne0 c = omega (arith, c.sets-1.given)
 pub shape_of-ends-then-d-ne0 : goal.shape_of-ends-then-d-ne0
 shape_of-ends-then-d-ne0 c = omega (arith, c.ends-1.given)
 
--- returns
 pub returns-then-d-ne0 : goal.returns-then-d-ne0
 returns-then-d-ne0 c =
     let a = c.args in
     let t = c.decide_insert-d.ensures.0 in
     (t, insert_kept (kind_of a.tops.now a.shape) c.requires.0 a.words.now (rule_in (length a.tops.now) a.row.now 0) _ t c.if-d-ne0.true)
 
--- slice-read-c
 pub bounds-words-0 : goal.bounds-words-0
 bounds-words-0 c =
     let a = c.args in
@@ -42,7 +40,6 @@ bounds-words-0 c =
     let w = sound_room g c.requires.0 a.words.now o in
     omega (arith, w.long)
 
--- slice-read-n
 pub bounds-words-1 : goal.bounds-words-1
 bounds-words-1 c =
     let a = c.args in
@@ -59,7 +56,6 @@ rows_end-from-requires c = omega (arith, c.requires)
 pub overflow_cast-from : goal.overflow_cast-from
 overflow_cast-from c = omega (arith, c.rows_end-from.ensures)
 
--- cast_end
 pub overflow_cast-end : goal.overflow_cast-end
 overflow_cast-end c =
     let a = c.args in
@@ -70,7 +66,6 @@ overflow_cast-end c =
     let w = sound_room g c.requires.0 a.words.now o in
     omega (arith, w.most)
 
--- mul-end
 pub overflow_mul-end : goal.overflow_mul-end
 overflow_mul-end c =
     let a = c.args in
@@ -81,7 +76,6 @@ overflow_mul-end c =
     let w = sound_room g c.requires.0 a.words.now o in
     omega (arith, w.most)
 
--- add_end
 pub overflow_add-end : goal.overflow_add-end
 overflow_add-end c =
     let a = c.args in
@@ -92,7 +86,6 @@ overflow_add-end c =
     let w = sound_room g c.requires.0 a.words.now o in
     omega (arith, w.most)
 
--- add-end-2
 pub overflow_add-end-2 : goal.overflow_add-end-2
 overflow_add-end-2 c =
     let a = c.args in
@@ -107,7 +100,6 @@ overflow_add-end-2 c =
 pub offset_bounds-words-from : goal.offset_bounds-words-from
 offset_bounds-words-from c = omega (arith, c.rows_end-from.ensures)
 
--- part-drop-end
 pub slice_bounds-drop-end : goal.slice_bounds-drop-end
 slice_bounds-drop-end c =
     let a = c.args in
@@ -122,7 +114,6 @@ slice_bounds-drop-end c =
 pub overflow_cast-tops : goal.overflow_cast-tops
 overflow_cast-tops c = omega (arith, c.requires)
 
--- drop-requires
 pub drop-requires : goal.drop-requires
 drop-requires c =
     let a = c.args in
@@ -134,7 +125,6 @@ drop-requires c =
     let f = c.rows_end-from.ensures.0 in
     sound_planted g c.requires.0 a.words.now o _ f
 
--- slice-relend-prefix-put-rule
 pub slice_bounds-put_rule-end : goal.slice_bounds-put_rule-end
 slice_bounds-put_rule-end c =
     let a = c.args in
@@ -147,7 +137,6 @@ slice_bounds-put_rule-end c =
     let l = still_long _ c.rows_end-from.result a.words.now _ (omega (arith, f, w.long)) w.most c.drop.ensures in
     omega (arith, l, f, w.long)
 
--- slice-aggregate-put-rule
 pub slice_bounds-put_rule-end-2 : goal.slice_bounds-put_rule-end-2
 slice_bounds-put_rule-end-2 c =
     let a = c.args in
@@ -160,7 +149,6 @@ slice_bounds-put_rule-end-2 c =
     let l = still_long _ c.rows_end-from.result a.words.now _ (omega (arith, f, w.long)) w.most c.drop.ensures in
     sym (length-take-le _ _ (omega (arith, l, f, w.long)))
 
--- put-rule-requires
 pub put_rule-requires : goal.put_rule-requires
 put_rule-requires c =
     let a = c.args in
@@ -173,7 +161,6 @@ put_rule-requires c =
     let l = still_long _ c.rows_end-from.result a.words.now _ (omega (arith, f, w.long)) w.most c.drop.ensures in
     (c.requires.0, length-take-le _ _ (omega (arith, l, f, w.long)) ∙ f, insert_room g c.requires.0 a.words.now (rule_in (length a.tops.now) a.row.now 0) z, insert_place g c.requires.0 a.words.now (rule_in (length a.tops.now) a.row.now 0) z _ _ (c.decide_insert-d.ensures.1 c.if-d-ne0.false))
 
--- add-plant
 pub overflow_add-n : goal.overflow_add-n
 overflow_add-n c =
     let a = c.args in
@@ -184,7 +171,6 @@ overflow_add-n c =
     let w = sound_room g c.requires.0 a.words.now o in
     record { fits = omega (arith, insert_room g c.requires.0 a.words.now (rule_in (length a.tops.now) a.row.now 0) z, c.requires.0.few) }
 
--- plant-requires
 pub plant-requires : goal.plant-requires
 plant-requires c =
     let a = c.args in
@@ -206,7 +192,6 @@ shape_of-sets c = omega (arith, c.sets-2-1.given, c.sets-1.given)
 pub shape_of-ends : goal.shape_of-ends
 shape_of-ends c = omega (arith, c.ends-2-1.given, c.ends-1.given)
 
--- returns-2
 pub returns : goal.returns
 returns c =
     let a = c.args in

@@ -15,7 +15,6 @@ put_in n p x w a b e f h =
     let z : n + 1 + 1 ≡ n + 2 = omega arith in
     (rw z at f) ∙ ap₂ (λ ys zs. ys ++ (x ∷ drop p zs)) (sym (take-take p (n + 1) a (omega arith)) ∙ ap (take p) e) e
 
--- returns
 pub returns : goal.returns
 returns c =
     let a = c.args in

@@ -48,7 +48,6 @@ returns-then-shape-n c =
 pub overflow_cast-tops : goal.overflow_cast-tops
 overflow_cast-tops c = omega (arith, c.requires)
 
--- fits-requires
 pub fits-requires : goal.fits-requires
 fits-requires c =
     let a = c.args in

@@ -9,11 +9,9 @@ use Rattle.deepest.proofs.of_ends.Goals as goal
 pub returns-then-m-eq0 : goal.returns-then-m-eq0
 returns-then-m-eq0 c = last_none _ _ _ _ _ (λ z. omega arith) refl _ c.ends_of-m.ensures.1 _ c.if-m-eq0.true c.requires.3
 
--- levels-requires
 pub levels-requires : goal.levels-requires
 levels-requires c = omega (arith, c.ends_of-m.ensures.0, c.requires.1)
 
--- add-own
 pub overflow_add-own : goal.overflow_add-own
 overflow_add-own c = omega (arith, c.levels.ensures.1, c.requires.2)
 

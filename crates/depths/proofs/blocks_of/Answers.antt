@@ -3,6 +3,5 @@
 use mathlib.Core.List.{append-nil}
 use Rattle.depths.proofs.blocks_of.Goals as goal
 
--- returns
 pub returns : goal.returns
 returns c = rw (append-nil, c.places.ensures) at c.of_chain.ensures

@@ -3,10 +3,8 @@
 use mathlib.Core.Path.{refl}
 use Rattle.depths.proofs.worst.Goals as goal
 
--- blocks-requires
 pub blocks-count-requires : goal.blocks-count-requires
 blocks-count-requires c = refl
 
--- returns
 pub returns : goal.returns
 returns c = c.blocks-count.ensures

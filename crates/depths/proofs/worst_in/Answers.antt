@@ -34,7 +34,6 @@ rows_end-from-requires c = omega (arith, c.requires)
 pub overflow_cast-from : goal.overflow_cast-from
 overflow_cast-from c = omega (arith, c.rows_end-from.ensures)
 
--- shared-slice-read-n
 pub bounds-image-1 : goal.bounds-image-1
 bounds-image-1 c = omega (arith, ((let h_sound : SoundImage (kind_of c.args.tops.now c.args.shape) c.args.image.now = its (kind_of c.args.tops.now c.args.shape) c.requires.0 c.args.image.now ((let h_passed : image_passes (kind_of c.args.tops.now c.args.shape) c.args.image.now ≡ true = sym c.check_in.ensures ∙ c.if-not-check_in.false in h_passed)) in h_sound)).long)
 
@@ -47,14 +46,12 @@ slice_bounds-blocks_of-count c = omega (arith, c.rows_end-from.ensures)
 pub slice_bounds-blocks_of-start : goal.slice_bounds-blocks_of-start
 slice_bounds-blocks_of-start c = omega (arith, c.rows_end-from.ensures)
 
--- part-blocks-of-end
 pub slice_bounds-blocks_of-end : goal.slice_bounds-blocks_of-end
 slice_bounds-blocks_of-end c = omega (arith, ((let h_sound : SoundImage (kind_of c.args.tops.now c.args.shape) c.args.image.now = its (kind_of c.args.tops.now c.args.shape) c.requires.0 c.args.image.now ((let h_passed : image_passes (kind_of c.args.tops.now c.args.shape) c.args.image.now ≡ true = sym c.check_in.ensures ∙ c.if-not-check_in.false in h_passed)) in h_sound)).long, c.rows_end-from.ensures.0)
 
 pub overflow_cast-tops : goal.overflow_cast-tops
 overflow_cast-tops c = omega (arith, c.requires)
 
--- blocks-of-requires
 pub blocks_of-reads-requires : goal.blocks_of-reads-requires
 blocks_of-reads-requires c =
     let h = c.requires.0 in

@@ -7,21 +7,17 @@ use Rattle.ipv4.proofs.Chosen.{lent, chosen}
 use Rattle.frozen.specs.Frozen.{total_says, total_gives}
 use Rattle.freeze.proofs.total.Goals as goal
 
--- total-in-requires
 pub total_in-requires : goal.total_in-requires
 total_in-requires c = lent true _ c.shape.ensures _ _ refl refl
 
--- returns
 pub returns-then-is_large : goal.returns-then-is_large
 returns-then-is_large c =
     let a = c.args in
     chosen true _ c.shape.ensures (λ (q : Kind). (c.total_in.result.answer ≡ total_says q a.words.now) × (c.total_in.result.words ≡ total_gives q a.words.now)) a.words.now (sym c.if-is_large.true ∙ c.is_large.ensures) c.total_in.ensures
 
--- total-in-requires-2
 pub total_in-requires-2 : goal.total_in-requires-2
 total_in-requires-2 c = lent false _ c.shape-2.ensures _ _ refl refl
 
--- returns-2
 pub returns : goal.returns
 returns c =
     let a = c.args in

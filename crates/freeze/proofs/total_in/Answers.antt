@@ -30,7 +30,6 @@ rows_end-from-requires c = omega (arith, c.requires)
 pub overflow_cast-from : goal.overflow_cast-from
 overflow_cast-from c = omega (arith, c.rows_end-from.ensures)
 
--- shared-slice-read-c
 pub bounds-words-0 : goal.bounds-words-0
 bounds-words-0 c = omega (arith, ((let h_wide : Roomy (kind_of c.args.tops.now c.args.shape) (cells_in c.args.words.now) c.args.words.now = room (kind_of c.args.tops.now c.args.shape) c.requires.0 c.args.words.now ((let h_passed : passes (kind_of c.args.tops.now c.args.shape) c.args.words.now ≡ true = sym c.check.ensures ∙ c.if-not-check.false in h_passed)) in h_wide)).long)
 
@@ -50,14 +49,12 @@ overflow_add-end-2 c = omega (arith, ((let h_wide : Roomy (kind_of c.args.tops.n
 pub offset_bounds-words-from : goal.offset_bounds-words-from
 offset_bounds-words-from c = omega (arith, c.rows_end-from.ensures)
 
--- part-count-end
 pub slice_bounds-count-end : goal.slice_bounds-count-end
 slice_bounds-count-end c = omega (arith, ((let h_wide : Roomy (kind_of c.args.tops.now c.args.shape) (cells_in c.args.words.now) c.args.words.now = room (kind_of c.args.tops.now c.args.shape) c.requires.0 c.args.words.now ((let h_passed : passes (kind_of c.args.tops.now c.args.shape) c.args.words.now ≡ true = sym c.check.ensures ∙ c.if-not-check.false in h_passed)) in h_wide)).long, c.rows_end-from.ensures.0)
 
 pub overflow_cast-tops : goal.overflow_cast-tops
 overflow_cast-tops c = omega (arith, c.requires)
 
--- count-requires
 pub count-blocks-requires : goal.count-blocks-requires
 count-blocks-requires c = (part_here (cells_in c.args.words.now) _ c.args.words.now (omega (arith, ((let h_wide : Roomy (kind_of c.args.tops.now c.args.shape) (cells_in c.args.words.now) c.args.words.now = room (kind_of c.args.tops.now c.args.shape) c.requires.0 c.args.words.now ((let h_passed : passes (kind_of c.args.tops.now c.args.shape) c.args.words.now ≡ true = sym c.check.ensures ∙ c.if-not-check.false in h_passed)) in h_wide)).long, c.rows_end-from.ensures.0)), ((let h_wide : Roomy (kind_of c.args.tops.now c.args.shape) (cells_in c.args.words.now) c.args.words.now = room (kind_of c.args.tops.now c.args.shape) c.requires.0 c.args.words.now ((let h_passed : passes (kind_of c.args.tops.now c.args.shape) c.args.words.now ≡ true = sym c.check.ensures ∙ c.if-not-check.false in h_passed)) in h_wide)).most, omega (arith, c.requires.0.ends, c.requires.0.narrow), total_small (kind_of c.args.tops.now c.args.shape) c.requires.0 c.args.words.now ((let h_passed : passes (kind_of c.args.tops.now c.args.shape) c.args.words.now ≡ true = sym c.check.ensures ∙ c.if-not-check.false in h_passed)) _ c.rows_end-from.ensures.0 refl)
 

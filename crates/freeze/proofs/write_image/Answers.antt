@@ -19,7 +19,6 @@ overflow_cast-from c = omega (arith, c.rows_end-from.ensures)
 pub overflow_add-front : goal.overflow_add-front
 overflow_add-front c = omega (arith, c.rows_end-from.ensures)
 
--- shared-slice-read-c
 pub bounds-words-0 : goal.bounds-words-0
 bounds-words-0 c = omega (arith, ((let h_wide : Roomy (kind_of c.args.tops.now c.args.shape) (cells_in c.args.words.now) c.args.words.now = room (kind_of c.args.tops.now c.args.shape) c.requires.0 c.args.words.now c.requires.1 in h_wide)).long)
 
@@ -46,7 +45,6 @@ slice_bounds-put_front-end-2 c = front_taken (kind_of c.args.tops.now c.args.sha
 pub slice_bounds-put_front-end-3 : goal.slice_bounds-put_front-end-3
 slice_bounds-put_front-end-3 c = words_taken (kind_of c.args.tops.now c.args.shape) c.requires.0 c.args.words.now c.requires.1 _ c.rows_end-from.ensures.0 c.args.image.now c.requires.2
 
--- put-front-requires
 pub put_front-requires : goal.put_front-requires
 put_front-requires c = (front_room (kind_of c.args.tops.now c.args.shape) c.requires.0 c.args.words.now c.requires.1 _ c.rows_end-from.ensures.0 c.args.image.now c.requires.2, front_some (kind_of c.args.tops.now c.args.shape) c.requires.0 c.args.words.now c.requires.1 _ c.rows_end-from.ensures.0 c.args.image.now c.requires.2)
 
@@ -62,14 +60,12 @@ slice_bounds-write-start c = omega (arith, c.image-1.given, c.rows_end-from.ensu
 pub offset_bounds-words-from : goal.offset_bounds-words-from
 offset_bounds-words-from c = omega (arith, c.rows_end-from.ensures)
 
--- part-write-end-2
 pub slice_bounds-write-end-2 : goal.slice_bounds-write-end-2
 slice_bounds-write-end-2 c = omega (arith, ((let h_wide : Roomy (kind_of c.args.tops.now c.args.shape) (cells_in c.args.words.now) c.args.words.now = room (kind_of c.args.tops.now c.args.shape) c.requires.0 c.args.words.now c.requires.1 in h_wide)).long, c.rows_end-from.ensures.0)
 
 pub overflow_cast-tops : goal.overflow_cast-tops
 overflow_cast-tops c = omega (arith, c.requires)
 
--- write-requires
 pub write-requires : goal.write-requires
 write-requires c = (
   part_here (cells_in c.args.words.now) _ c.args.words.now (omega (arith, ((let h_wide : Roomy (kind_of c.args.tops.now c.args.shape) (cells_in c.args.words.now) c.args.words.now = room (kind_of c.args.tops.now c.args.shape) c.requires.0 c.args.words.now c.requires.1 in h_wide)).long, c.rows_end-from.ensures.0)),
@@ -83,6 +79,5 @@ write-requires c = (
 pub shape_of-image : goal.shape_of-image
 shape_of-image c = omega (arith, c.image-2-1.given, c.image-1.given)
 
--- returns
 pub returns : goal.returns
 returns c = image_written (kind_of c.args.tops.now c.args.shape) c.requires.0 c.args.words.now c.requires.1 _ c.rows_end-from.ensures.0 c.args.image.now c.requires.2 _ c.put_front.ensures _ c.write.ensures

@@ -18,7 +18,6 @@ bounds-head-1 c = let a = c.args in omega (arith, c.requires, length-set a.head.
 pub bounds-head-2 : goal.bounds-head-2
 bounds-head-2 c = let a = c.args in omega (arith, c.requires, length-set (set a.head.now 0 a.c) 1 a.n, length-set a.head.now 0 a.c)
 
--- loop-holds
 pub loop-i-init : goal.loop-i-init
 loop-i-init c =
     let a = c.args in
@@ -31,7 +30,6 @@ offset_bounds-head-i c = let l = c.loop-i in let a = c.args in let e = thrice a.
 pub overflow_add-i : goal.overflow_add-i
 overflow_add-i c = let l = c.loop-i in let a = c.args in let e = thrice a.head.now a.c a.n a.mark in search rules
 
--- loop-again
 pub loop-i-preserved : goal.loop-i-preserved
 loop-i-preserved c =
     let l = c.loop-i in
@@ -39,11 +37,9 @@ loop-i-preserved c =
     let e = length-set l.head l.i 0 in
     (search rules, omega (arith, e, t), e ∙ l.invariant.2, head_on _ _ _ l.head l.i l.invariant.0 t l.invariant.3)
 
--- same-length
 pub shape_of-head : goal.shape_of-head
 shape_of-head c = let l = c.loop-i in let a = c.args in l.invariant.2 ∙ thrice a.head.now a.c a.n a.mark
 
--- returns
 pub returns : goal.returns
 returns c =
     let l = c.loop-i in

@@ -30,7 +30,6 @@ total_length-total-requires c = omega (arith, c.if-s-lt20.false)
 pub has_ports-ported-requires : goal.has_ports-ported-requires
 has_ports-ported-requires c = omega (arith, c.if-s-lt20.false)
 
--- add-if4
 pub overflow_add-behind : goal.overflow_add-behind
 overflow_add-behind c = omega (arith, c.ports_length.ensures.1, c.header_length-behind.ensures.1)
 

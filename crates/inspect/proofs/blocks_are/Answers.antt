@@ -2,6 +2,5 @@
 -- Assumes nothing.
 use Rattle.inspect.proofs.blocks_are.Goals as goal
 
--- returns
 pub returns : goal.returns
 returns c = rw c.places.ensures at c.tree_is.ensures

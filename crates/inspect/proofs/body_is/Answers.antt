@@ -40,7 +40,6 @@ slice_bounds-table_is-end c = omega (arith, c.rows_end-from.ensures, c.requires)
 pub table_is-requires : goal.table_is-requires
 table_is-requires c = omega (arith, c.table_is-arg-1.given, c.rows_end-from.ensures, c.requires)
 
--- returns
 pub returns-then-not-table_is : goal.returns-then-not-table_is
 returns-then-not-table_is c = wrong_table (kind_of c.args.tops.now c.args.shape) c.args.image.now c.args.n _ c.rows_end-from.ensures.0 _ c.table_is.ensures (ap not c.if-not-table_is.true)
 
@@ -65,7 +64,6 @@ slice_bounds-blocks_are-start-2 c = omega (arith, c.rows_end-from.ensures)
 pub slice_bounds-blocks_are-end-2 : goal.slice_bounds-blocks_are-end-2
 slice_bounds-blocks_are-end-2 c = omega (arith, c.rows_end-from.ensures, c.requires)
 
--- blocks-are-requires
 pub blocks_are-requires : goal.blocks_are-requires
 blocks_are-requires c =
     let h = c.requires.0 in
@@ -77,7 +75,6 @@ shape_of-sets-then-not-blocks_are c = omega (arith, c.sets-1.given)
 pub shape_of-ends-then-not-blocks_are : goal.shape_of-ends-then-not-blocks_are
 shape_of-ends-then-not-blocks_are c = omega (arith, c.ends-1.given)
 
--- returns-2
 pub returns-then-not-blocks_are : goal.returns-then-not-blocks_are
 returns-then-not-blocks_are c = wrong_blocks (kind_of c.args.tops.now c.args.shape) c.args.image.now c.args.n _ c.rows_end-from.ensures.0 _ _ c.table_is.ensures (ap not c.if-not-table_is.false) c.blocks_are.ensures (ap not c.if-not-blocks_are.true)
 
@@ -93,7 +90,6 @@ slice_bounds-cells_fit-start c = omega (arith, c.rows_end-from.ensures)
 pub slice_bounds-cells_fit-end : goal.slice_bounds-cells_fit-end
 slice_bounds-cells_fit-end c = omega (arith, c.rows_end-from.ensures, c.requires)
 
--- cells-fit-requires
 pub cells_fit-requires : goal.cells_fit-requires
 cells_fit-requires c =
     let h = c.requires.0 in
@@ -107,6 +103,5 @@ shape_of-sets c = omega (arith, c.sets-2-1.given, c.sets-1.given)
 pub shape_of-ends : goal.shape_of-ends
 shape_of-ends c = omega (arith, c.ends-2-1.given, c.ends-1.given)
 
--- returns-3
 pub returns : goal.returns
 returns c = right_body (kind_of c.args.tops.now c.args.shape) c.args.image.now c.args.n _ c.rows_end-from.ensures.0 _ _ _ c.table_is.ensures (ap not c.if-not-table_is.false) c.blocks_are.ensures (ap not c.if-not-blocks_are.false) c.cells_fit.ensures

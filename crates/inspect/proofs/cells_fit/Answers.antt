@@ -4,6 +4,5 @@ use mathlib.Core.List.{append-nil}
 use Rattle.layout.proofs.Parts.{counted}
 use Rattle.inspect.proofs.cells_fit.Goals as goal
 
--- returns
 pub returns : goal.returns
 returns c = counted _ _ 65536 (rw (append-nil, c.places.ensures) at c.count_chain.ensures)

@@ -7,21 +7,17 @@ use Rattle.ipv4.proofs.Chosen.{lent, chosen}
 use Rattle.frozen.specs.Frozen.{image_passes}
 use Rattle.inspect.proofs.check.Goals as goal
 
--- check-in-requires
 pub check_in-requires : goal.check_in-requires
 check_in-requires c = lent true _ c.shape.ensures _ _ refl refl
 
--- returns
 pub returns-then-is_large : goal.returns-then-is_large
 returns-then-is_large c =
     let a = c.args in
     chosen true _ c.shape.ensures (λ (q : Kind). c.check_in.result ≡ image_passes q a.image.now) a.image.now (sym c.if-is_large.true ∙ c.is_large.ensures) c.check_in.ensures
 
--- check-in-requires-2
 pub check_in-requires-2 : goal.check_in-requires-2
 check_in-requires-2 c = lent false _ c.shape-2.ensures _ _ refl refl
 
--- returns-2
 pub returns : goal.returns
 returns c =
     let a = c.args in

@@ -14,7 +14,6 @@ loop-i-init c = filled_start _ _ _ _ _
 pub bounds-words-at-in-loop-i : goal.bounds-words-at-in-loop-i
 bounds-words-at-in-loop-i c = simp length-set (omega arith)
 
--- loop-again
 pub loop-i-preserved : goal.loop-i-preserved
 loop-i-preserved c =
     let b = c.args.b in
@@ -23,10 +22,8 @@ loop-i-preserved c =
     let z' : 16 * b + (8 + l.i) ≡ link_place b l.i = omega arith in
     rw (z, z') (filled_on _ _ _ _ _ l.words l.i _ _ l.invariant (search rules) (search rules) refl refl)
 
--- same-length
 pub shape_of-words : goal.shape_of-words
 shape_of-words c = c.loop-i.invariant.long
 
--- returns
 pub returns : goal.returns
 returns c = filled_done _ _ _ _ _ _ _ c.loop-i.invariant (search rules) (search rules)

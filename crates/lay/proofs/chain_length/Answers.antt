@@ -8,14 +8,11 @@ use Rattle.lay.proofs.chain_length.Goals as goal
 pub loop-m-init : goal.loop-m-init
 loop-m-init c = passing_start _ _ _
 
--- returns
 pub returns-then-c-cell : goal.returns-then-c-cell
 returns-then-c-cell c = let l = c.loop-m in passing_out _ _ _ l.m l.cell l.invariant c.if-c-cell.true
 
--- loop-again
 pub loop-m-preserved : goal.loop-m-preserved
 loop-m-preserved c = let l = c.loop-m in passing_on _ _ _ l.m l.cell l.invariant (search rules) (search rules) _ refl
 
--- returns-2
 pub returns : goal.returns
 returns c = let l = c.loop-m in passing_done _ _ _ l.m l.cell l.invariant (search rules)

@@ -13,17 +13,14 @@ loop-j-init c = (search rules, blanks_none top_end 0 _ _)
 pub blank-requires : goal.blank-requires
 blank-requires c = omega (arith, c.loop-j.invariant.1.long)
 
--- loop-again
 pub loop-j-preserved : goal.loop-j-preserved
 loop-j-preserved c =
     let l = c.loop-j.invariant in
     (omega arith, blanks_more top_end 0 (search rules) l.1 c.blank.ensures)
 
--- same-length
 pub shape_of-words : goal.shape_of-words
 shape_of-words c = c.loop-j.invariant.1.long
 
--- returns
 pub returns : goal.returns
 returns c =
     let l = c.loop-j in

@@ -7,10 +7,8 @@ use Rattle.lay.proofs.down_to.Goals as goal
 pub overflow_add-result : goal.overflow_add-result
 overflow_add-result c = omega (arith, c.requires.1 c.if-left-eq0.true)
 
--- returns
 pub returns-then-left-eq0 : goal.returns-then-left-eq0
 returns-then-left-eq0 c = rw (eq-eqb _ 0 c.if-left-eq0.true)
 
--- returns-2
 pub returns : goal.returns
 returns c = simp (ne_eqb _ 0 c.if-left-eq0.false)

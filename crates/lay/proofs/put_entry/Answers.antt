@@ -3,6 +3,5 @@ use native.Mathlib.Omega.{arith}
 use lib.ListN.{length-set}
 use Rattle.lay.proofs.put_entry.Goals as goal
 
--- slice-write-words-2
 pub bounds-words-at-2 : goal.bounds-words-at-2
 bounds-words-at-2 c = simp length-set (omega arith)

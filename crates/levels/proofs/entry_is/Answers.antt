@@ -3,10 +3,8 @@
 use Rattle.levels.proofs.Levels.{both_same, not_both}
 use Rattle.levels.proofs.entry_is.Goals as goal
 
--- returns
 pub returns-then-words-at : goal.returns-then-words-at
 returns-then-words-at c = let a = c.args in not_both a.words.now a.b a.j a.end a.link c.if-words-at.true
 
--- returns-2
 pub returns : goal.returns
 returns c = let a = c.args in both_same a.words.now a.b a.j a.end a.link c.if-words-at.false

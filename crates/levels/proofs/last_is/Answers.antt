@@ -8,7 +8,6 @@ use native.Mathlib.Omega.{arith}
 use Rattle.levels.proofs.Chain.{looks_start, looks_in, last_no, last_on, looks_above, looks_done, looks_not}
 use Rattle.levels.proofs.last_is.Goals as goal
 
--- loop-holds
 pub loop-i-init : goal.loop-i-init
 loop-i-init c = let p = c.requires in looks_start p.0 (λ z. absurd (omega arith)) p.1
 
@@ -18,18 +17,17 @@ end_at-e-requires c = looks_in c.loop-i.invariant c.loop-i-test.true
 pub down_is-requires : goal.down_is-requires
 down_is-requires c = looks_in c.loop-i.invariant c.loop-i-test.true
 
--- returns: a link is wrong
+-- a link is wrong
 pub returns-then-not-down_is : goal.returns-then-not-down_is
 returns-then-not-down_is c = last_no c.loop-i.invariant c.loop-i-test.true c.end_at-e.ensures (rw append-nil at c.least-named.ensures) c.down_is.ensures (ap not c.if-not-down_is.true)
 
--- loop-again
 pub loop-i-preserved : goal.loop-i-preserved
 loop-i-preserved c = last_on c.loop-i.invariant c.loop-i-test.true c.end_at-e.ensures (rw append-nil at c.least-named.ensures) c.down_is.ensures (ap not c.if-not-down_is.false)
 
 pub upper_is-requires : goal.upper_is-requires
 upper_is-requires c = looks_above c.loop-i.invariant
 
--- returns-2: a level above is wrong
+-- a level above is wrong
 pub returns-then-not-upper_is : goal.returns-then-not-upper_is
 returns-then-not-upper_is c = looks_not c.loop-i.invariant c.loop-i-test.false c.upper_is.result (ap not c.if-not-upper_is.true) c.upper_is.ensures
 
@@ -42,6 +40,5 @@ overflow_add-result-2 c = omega (arith, looks_above c.loop-i.invariant)
 pub overflow_cast-result : goal.overflow_cast-result
 overflow_cast-result c = omega (arith, looks_above c.loop-i.invariant)
 
--- returns-3
 pub returns : goal.returns
 returns c = looks_done c.loop-i.invariant c.loop-i-test.false c.upper_is.result (ap not c.if-not-upper_is.false) c.upper_is.ensures

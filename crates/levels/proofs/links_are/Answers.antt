@@ -12,13 +12,11 @@ use Rattle.levels.proofs.links_are.Goals as goal
 pub loop-j-init : goal.loop-j-init
 loop-j-init c = (search rules, linked_start _ _ _ _ _)
 
--- returns
 pub returns-then-not-entry_is : goal.returns-then-not-entry_is
 returns-then-not-entry_is c =
     let l = c.loop-j in
     links_not _ _ _ _ _ l.j _ _ l.invariant.1 (search rules) (search rules) c.last_end-end.ensures c.link_to-link.ensures (was_no c.entry_is.ensures (ap not c.if-not-entry_is.true))
 
--- loop-again
 pub loop-j-preserved : goal.loop-j-preserved
 loop-j-preserved c =
     let l = c.loop-j in

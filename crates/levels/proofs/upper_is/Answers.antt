@@ -26,14 +26,11 @@ links_are-requires c =
     let h = climbs_fits _ _ _ _ _ _ _ o (search rules) in
     (omega arith, omega (arith, o.low, o.long), omega (arith, o.low))
 
--- returns
 pub returns-then-not-links_are : goal.returns-then-not-links_are
 returns-then-not-links_are c = let l = c.loop-left in mounts_not _ _ _ _ l.at l.left l.invariant c.links_are.result (ap not c.if-not-links_are.true) c.links_are.ensures (search rules)
 
--- loop-again
 pub loop-left-preserved : goal.loop-left-preserved
 loop-left-preserved c = let l = c.loop-left in mounts_on _ _ _ _ l.at l.left l.invariant c.links_are.result (ap not c.if-not-links_are.false) c.links_are.ensures (search rules)
 
--- returns-2
 pub returns : goal.returns
 returns c = mounts_done _ _ _ _ _ _ c.loop-left.invariant (search rules)

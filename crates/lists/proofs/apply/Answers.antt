@@ -8,7 +8,6 @@ use Rattle.table.specs.Rows.{kind_of}
 use Rattle.lists.proofs.Applied.{fronts_long, fronts_count, fronts_few, fronts_rising, place_at, part_long, put_room, put_place, put_on, take_stands, take_place, take_on}
 use Rattle.lists.proofs.apply.Goals as goal
 
--- slice-read-n
 pub bounds-front-1 : goal.bounds-front-1
 bounds-front-1 c =
     let a = c.args in
@@ -16,7 +15,6 @@ bounds-front-1 c =
     let f = c.requires.2.1.1.1 in
     omega (arith, fronts_long k c.requires.0 _ _ _ _ f, c.requires.0.three)
 
--- sub-before
 pub slice_bounds-before-count : goal.slice_bounds-before-count
 slice_bounds-before-count c =
     let a = c.args in
@@ -24,7 +22,6 @@ slice_bounds-before-count c =
     let f = c.requires.2.1.1.1 in
     omega (arith, fronts_long k c.requires.0 _ _ _ _ f)
 
--- part-before-start
 pub slice_bounds-before-start : goal.slice_bounds-before-start
 slice_bounds-before-start c =
     let a = c.args in
@@ -32,7 +29,6 @@ slice_bounds-before-start c =
     let f = c.requires.2.1.1.1 in
     omega (arith, fronts_long k c.requires.0 _ _ _ _ f)
 
--- before-requires
 pub before-place-requires : goal.before-place-requires
 before-place-requires c =
     let a = c.args in
@@ -40,7 +36,6 @@ before-place-requires c =
     let f = c.requires.2.1.1.1 in
     (omega (arith, fronts_few k c.requires.0 _ _ _ _ f, c.requires.0.few), c.requires.0.narrow, fronts_rising k c.requires.0 _ _ _ _ f)
 
--- put-rule-requires
 pub put_rule-requires : goal.put_rule-requires
 put_rule-requires c =
     let a = c.args in
@@ -61,7 +56,6 @@ returns-then-edits-at-eq0 c =
     put_on k c.requires.0 d u rest a.edits.now a.at a.front.now g c.if-edits-at-eq0.true m l y _
     (c.put_rule.ensures d u g.right (fronts_count k c.requires.0 d u _ _ g) (put_place k c.requires.0 d u rest a.edits.now a.at a.front.now g c.if-edits-at-eq0.true m l y _ c.before-place.ensures.0) (part_long (length a.tops.now) (a.at + 1) m a.edits.now l y) g.text)
 
--- take-rule-requires
 pub take_rule-requires : goal.take_rule-requires
 take_rule-requires c =
     let a = c.args in

@@ -10,13 +10,11 @@ use Rattle.table.specs.Rows.{kind_of}
 use Rattle.lists.proofs.Applied.{still_first, still_next, still_on, still_end}
 use Rattle.lists.proofs.apply_all.Goals as goal
 
--- loop-holds
 pub loop-i-init : goal.loop-i-init
 loop-i-init c =
     let a = c.args in
     (search rules, omega arith, refl, λ d t f. still_first (kind_of a.tops.now a.shape) d (a.shape.width + 1) a.count a.edits.now a.front.now t f)
 
--- apply-requires
 pub apply-requires : goal.apply-requires
 apply-requires c =
     let l = c.loop-i in
@@ -25,13 +23,11 @@ apply-requires c =
     let w = still_next (kind_of a.tops.now a.shape) f.0 (a.shape.width + 1) a.count l.i l.at a.edits.now l.front _ c.loop-i-test.true (l.invariant.3 f.0 f.1.0 f.1.1) in
     (c.requires.0, omega (arith, l.invariant.1, row_ends (a.shape.width + 1) l.i a.count c.loop-i-test.true, c.requires.2, c.requires.0.ends), (_, (f.0, (w.table, w.fronts))))
 
--- add-at
 pub overflow_add-at : goal.overflow_add-at
 overflow_add-at c =
     let l = c.loop-i in
     omega (arith, l.invariant.1, row_starts (c.args.shape.width + 1) l.i 32 (omega (arith, c.loop-i-test.true, c.requires.1)), c.requires.0.narrow)
 
--- loop-again
 pub loop-i-preserved : goal.loop-i-preserved
 loop-i-preserved c =
     let l = c.loop-i in
@@ -45,7 +41,6 @@ loop-i-preserved c =
           still_on k d _ _ _ _ _ w (c.apply.ensures d w.table _ w.fronts),
     )
 
--- returns
 pub returns : goal.returns
 returns c =
     let l = c.loop-i in

@@ -51,7 +51,6 @@ slice_bounds-first_refusal-count c = omega (arith, c.rows_end-from.ensures)
 pub slice_bounds-first_refusal-start : goal.slice_bounds-first_refusal-start
 slice_bounds-first_refusal-start c = omega (arith, c.rows_end-from.ensures)
 
--- part-first-refusal-end
 pub slice_bounds-first_refusal-end : goal.slice_bounds-first_refusal-end
 slice_bounds-first_refusal-end c =
     let a = c.args in
@@ -60,7 +59,6 @@ slice_bounds-first_refusal-end c =
     let w = sound_room g c.requires.0 a.words.now (sound g c.requires.0 a.words.now h) in
     omega (arith, w.long, c.rows_end-from.ensures.0)
 
--- shared-slice-read-first-refusal
 pub bounds-words-1 : goal.bounds-words-1
 bounds-words-1 c =
     let a = c.args in
@@ -69,7 +67,6 @@ bounds-words-1 c =
     let w = sound_room g c.requires.0 a.words.now (sound g c.requires.0 a.words.now h) in
     omega (arith, w.long)
 
--- shared-slice-read-first-refusal-2
 pub bounds-words-0 : goal.bounds-words-0
 bounds-words-0 c =
     let a = c.args in
@@ -81,7 +78,6 @@ bounds-words-0 c =
 pub overflow_cast-count : goal.overflow_cast-count
 overflow_cast-count c = omega (arith, c.if-count-gt32.false)
 
--- first-refusal-requires
 pub first_refusal-requires : goal.first_refusal-requires
 first_refusal-requires c =
     let a = c.args in

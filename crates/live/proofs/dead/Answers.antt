@@ -3,10 +3,8 @@
 use mathlib.Core.Path.{refl}
 use Rattle.live.proofs.dead.Goals as goal
 
--- fate-of-requires
 pub fate_of-fate-requires : goal.fate_of-fate-requires
 fate_of-fate-requires c = refl
 
--- returns
 pub returns : goal.returns
 returns c = c.fate_of-fate.ensures

@@ -25,7 +25,6 @@ shape_of-ends-then-answer-ne0 c = omega (arith, c.ends-1.given)
 pub returns-then-answer-ne0 : goal.returns-then-answer-ne0
 returns-then-answer-ne0 c = says_refused (kind_of c.args.tops.now c.args.shape) c.args.words.now c.args.number _ c.find-found.ensures.0 c.if-answer-ne0.true _
 
--- place-requires
 pub place-p-requires : goal.place-p-requires
 place-p-requires c = (c.requires.0, (let h_there : Standing (kind_of c.args.tops.now c.args.shape) c.args.words.now c.args.number = standing (kind_of c.args.tops.now c.args.shape) c.args.words.now c.args.number ((let h_read : read_says (kind_of c.args.tops.now c.args.shape) c.args.words.now c.args.number ≡ 0 = sym c.find-found.ensures.0 ∙ c.if-answer-ne0.false in h_read)) in h_there))
 
@@ -35,7 +34,6 @@ rows_end-from-requires c = omega (arith, c.requires)
 pub overflow_cast-from : goal.overflow_cast-from
 overflow_cast-from c = omega (arith, c.rows_end-from.ensures)
 
--- shared-slice-read-c
 pub bounds-words-0 : goal.bounds-words-0
 bounds-words-0 c = omega (arith, ((let h_wide : Roomy (kind_of c.args.tops.now c.args.shape) (cells_in c.args.words.now) c.args.words.now = room (kind_of c.args.tops.now c.args.shape) c.requires.0 c.args.words.now c.args.number ((let h_there : Standing (kind_of c.args.tops.now c.args.shape) c.args.words.now c.args.number = standing (kind_of c.args.tops.now c.args.shape) c.args.words.now c.args.number ((let h_read : read_says (kind_of c.args.tops.now c.args.shape) c.args.words.now c.args.number ≡ 0 = sym c.find-found.ensures.0 ∙ c.if-answer-ne0.false in h_read)) in h_there)) in h_wide)).long)
 
@@ -55,14 +53,12 @@ overflow_add-end-2 c = omega (arith, ((let h_wide : Roomy (kind_of c.args.tops.n
 pub offset_bounds-words-from : goal.offset_bounds-words-from
 offset_bounds-words-from c = omega (arith, c.rows_end-from.ensures)
 
--- part-reach-end
 pub slice_bounds-reach-end : goal.slice_bounds-reach-end
 slice_bounds-reach-end c = omega (arith, ((let h_wide : Roomy (kind_of c.args.tops.now c.args.shape) (cells_in c.args.words.now) c.args.words.now = room (kind_of c.args.tops.now c.args.shape) c.requires.0 c.args.words.now c.args.number ((let h_there : Standing (kind_of c.args.tops.now c.args.shape) c.args.words.now c.args.number = standing (kind_of c.args.tops.now c.args.shape) c.args.words.now c.args.number ((let h_read : read_says (kind_of c.args.tops.now c.args.shape) c.args.words.now c.args.number ≡ 0 = sym c.find-found.ensures.0 ∙ c.if-answer-ne0.false in h_read)) in h_there)) in h_wide)).long, c.rows_end-from.ensures.0)
 
 pub overflow_cast-tops : goal.overflow_cast-tops
 overflow_cast-tops c = omega (arith, c.requires)
 
--- reach-requires
 pub reach-requires : goal.reach-requires
 reach-requires c = (part_here (cells_in c.args.words.now) _ c.args.words.now (omega (arith, ((let h_wide : Roomy (kind_of c.args.tops.now c.args.shape) (cells_in c.args.words.now) c.args.words.now = room (kind_of c.args.tops.now c.args.shape) c.requires.0 c.args.words.now c.args.number ((let h_there : Standing (kind_of c.args.tops.now c.args.shape) c.args.words.now c.args.number = standing (kind_of c.args.tops.now c.args.shape) c.args.words.now c.args.number ((let h_read : read_says (kind_of c.args.tops.now c.args.shape) c.args.words.now c.args.number ≡ 0 = sym c.find-found.ensures.0 ∙ c.if-answer-ne0.false in h_read)) in h_there)) in h_wide)).long, c.rows_end-from.ensures.0)), ((let h_wide : Roomy (kind_of c.args.tops.now c.args.shape) (cells_in c.args.words.now) c.args.words.now = room (kind_of c.args.tops.now c.args.shape) c.requires.0 c.args.words.now c.args.number ((let h_there : Standing (kind_of c.args.tops.now c.args.shape) c.args.words.now c.args.number = standing (kind_of c.args.tops.now c.args.shape) c.args.words.now c.args.number ((let h_read : read_says (kind_of c.args.tops.now c.args.shape) c.args.words.now c.args.number ≡ 0 = sym c.find-found.ensures.0 ∙ c.if-answer-ne0.false in h_read)) in h_there)) in h_wide)).most, c.requires.2)
 

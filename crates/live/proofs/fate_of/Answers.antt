@@ -7,25 +7,21 @@ use Rattle.ipv4.proofs.Chosen.{lent, chosen}
 use Rattle.live.specs.Live.{life, life_of}
 use Rattle.live.proofs.fate_of.Goals as goal
 
--- dead-in-requires
 pub dead_in-requires : goal.dead_in-requires
 dead_in-requires c =
     let l = lent true _ c.shape.ensures _ _ refl refl in
     (l.0, l.1, c.requires)
 
--- returns
 pub returns-then-is_large : goal.returns-then-is_large
 returns-then-is_large c =
     let a = c.args in
     chosen true _ c.shape.ensures (λ (q : Kind). life c.dead_in.result.answer c.dead_in.result.dead c.dead_in.new.out ≡ life_of q a.words.now a.number a.out.now) a.words.now (sym c.if-is_large.true ∙ c.is_large.ensures) c.dead_in.ensures
 
--- dead-in-requires-2
 pub dead_in-requires-2 : goal.dead_in-requires-2
 dead_in-requires-2 c =
     let l = lent false _ c.shape-2.ensures _ _ refl refl in
     (l.0, l.1, c.requires)
 
--- returns-2
 pub returns : goal.returns
 returns c =
     let a = c.args in

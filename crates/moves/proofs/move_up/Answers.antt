@@ -8,11 +8,9 @@ use lib.ListN.{length-set}
 use Rattle.moves.proofs.Copies.{rising_start, rising_on, raised}
 use Rattle.moves.proofs.move_up.Goals as goal
 
--- loop-holds
 pub loop-i-init : goal.loop-i-init
 loop-i-init c = (search rules, search rules, refl, rising_start _ _)
 
--- loop-again
 pub loop-i-preserved : goal.loop-i-preserved
 loop-i-preserved c =
     let l = c.loop-i in
@@ -20,10 +18,8 @@ loop-i-preserved c =
     let e = length-set l.rows (l.i - 1) _ in
     (omega (arith, t), omega (arith, e, l.invariant.1), e ∙ l.invariant.2, rising_on l.invariant.3 (omega (arith, t)) l.invariant.1)
 
--- same-length
 pub shape_of-rows : goal.shape_of-rows
 shape_of-rows c = c.loop-i.invariant.2
 
--- returns
 pub returns : goal.returns
 returns c = let l = c.loop-i.invariant in raised _ l.3 (omega (arith, l.0, c.loop-i-test.false))

@@ -4,7 +4,6 @@ use mathlib.Core.Path.{◌∙◌}
 use Rattle.moves.proofs.Copies.{put_moved}
 use Rattle.moves.proofs.put.Goals as goal
 
--- returns
 pub returns : goal.returns
 returns c =
     let a = c.args in

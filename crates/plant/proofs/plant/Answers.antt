@@ -5,13 +5,11 @@ use Rattle.table.specs.Rows.{kind_of}
 use Rattle.plant.proofs.Planting.{plantable, sets_planted}
 use Rattle.plant.proofs.plant.Goals as goal
 
--- build-requires
 pub build-requires : goal.build-requires
 build-requires c =
     let a = c.args in
     plantable (kind_of a.tops.now a.shape) a.c a.words.now _ c.rows_end-from.ensures.0 c.requires.3 a.n _ c.places.ensures c.places.auto.out c.requires.1 c.requires.2 (omega (arith, c.requires.0.ends, c.requires.0.narrow)) c.requires.4
 
--- returns
 pub returns : goal.returns
 returns c =
     let a = c.args in

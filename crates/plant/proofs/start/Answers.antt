@@ -16,7 +16,6 @@ use Rattle.plant.proofs.start.Goals as goal
 pub room_for-requires : goal.room_for-requires
 room_for-requires c = omega (arith, c.requires)
 
--- returns
 pub returns-then-not-room_for : goal.returns-then-not-room_for
 returns-then-not-room_for c =
     let a = c.args in
@@ -40,7 +39,6 @@ overflow_add-end-2 c = omega (arith, c.rows_end-from.ensures, c.well_formed)
 pub offset_bounds-words-from : goal.offset_bounds-words-from
 offset_bounds-words-from c = omega (arith, c.rows_end-from.ensures)
 
--- part-clear-end
 pub slice_bounds-clear-end : goal.slice_bounds-clear-end
 slice_bounds-clear-end c =
     let a = c.args in
@@ -49,7 +47,6 @@ slice_bounds-clear-end c =
     let f = c.rows_end-from.ensures.0 in
     omega (arith, f, w.long)
 
--- clear-requires
 pub clear-requires : goal.clear-requires
 clear-requires c =
     let a = c.args in
@@ -58,7 +55,6 @@ clear-requires c =
     let f = c.rows_end-from.ensures.0 in
     (part_here a.c c.rows_end-from.result a.words.now (omega (arith, f, w.long)), w.most)
 
--- slice-relend-prefix-fresh
 pub slice_bounds-fresh-end : goal.slice_bounds-fresh-end
 slice_bounds-fresh-end c =
     let a = c.args in
@@ -68,7 +64,6 @@ slice_bounds-fresh-end c =
     let l = still_long a.c c.rows_end-from.result a.words.now _ (omega (arith, f, w.long)) w.most c.clear.ensures in
     omega (arith, l, f, w.long)
 
--- slice-aggregate-fresh
 pub slice_bounds-fresh-end-2 : goal.slice_bounds-fresh-end-2
 slice_bounds-fresh-end-2 c =
     let a = c.args in
@@ -78,7 +73,6 @@ slice_bounds-fresh-end-2 c =
     let l = still_long a.c c.rows_end-from.result a.words.now _ (omega (arith, f, w.long)) w.most c.clear.ensures in
     sym (length-take-le _ _ (omega (arith, l, f, w.long)))
 
--- fresh-requires
 pub fresh-requires : goal.fresh-requires
 fresh-requires c =
     let a = c.args in
@@ -88,7 +82,6 @@ fresh-requires c =
     let l = still_long a.c c.rows_end-from.result a.words.now _ (omega (arith, f, w.long)) w.most c.clear.ensures in
     (c.requires.0, length-take-le _ _ (omega (arith, l, f, w.long)) ∙ f)
 
--- plant-requires
 pub plant-requires : goal.plant-requires
 plant-requires c =
     let a = c.args in
@@ -108,7 +101,6 @@ shape_of-sets c = omega (arith, c.sets-1.given)
 pub shape_of-ends : goal.shape_of-ends
 shape_of-ends c = omega (arith, c.ends-1.given)
 
--- returns-2
 pub returns : goal.returns
 returns c =
     let a = c.args in

@@ -7,21 +7,17 @@ use Rattle.ipv4.proofs.Chosen.{lent, chosen}
 use Rattle.layout.specs.Store.{passes}
 use Rattle.reading.proofs.check.Goals as goal
 
--- check-requires
 pub check-requires : goal.check-requires
 check-requires c = lent true _ c.shape.ensures _ _ refl refl
 
--- returns
 pub returns-then-is_large : goal.returns-then-is_large
 returns-then-is_large c =
     let a = c.args in
     chosen true _ c.shape.ensures (λ (q : Kind). c.check.result ≡ passes q a.words.now) a.words.now (sym c.if-is_large.true ∙ c.is_large.ensures) c.check.ensures
 
--- check-requires-2
 pub check-requires-2 : goal.check-requires-2
 check-requires-2 c = lent false _ c.shape-2.ensures _ _ refl refl
 
--- returns-2
 pub returns : goal.returns
 returns c =
     let a = c.args in

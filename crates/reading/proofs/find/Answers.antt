@@ -8,21 +8,17 @@ use Rattle.table.specs.Rows.{rule_in}
 use Rattle.layout.specs.Store.{rows_of, table_of, read_says}
 use Rattle.reading.proofs.find.Goals as goal
 
--- find-requires
 pub find-requires : goal.find-requires
 find-requires c = lent true _ c.shape.ensures _ _ refl refl
 
--- returns
 pub returns-then-is_large : goal.returns-then-is_large
 returns-then-is_large c =
     let a = c.args in
     chosen true _ c.shape.ensures (λ (q : Kind). (c.find.result.answer ≡ read_says q a.words.now a.number) × (c.find.result.answer ≡ 0 → rule_in 6 (rows_of q a.words.now) c.find.result.row ≡ read_rule q (table_of q a.words.now) a.number)) a.words.now (sym c.if-is_large.true ∙ c.is_large.ensures) c.find.ensures
 
--- find-requires-2
 pub find-requires-2 : goal.find-requires-2
 find-requires-2 c = lent false _ c.shape-2.ensures _ _ refl refl
 
--- returns-2
 pub returns : goal.returns
 returns c =
     let a = c.args in

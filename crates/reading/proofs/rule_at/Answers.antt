@@ -7,14 +7,12 @@ use Rattle.layout.specs.Store.{table_of, place_says}
 use Rattle.reading.proofs.Found.{found_is, found_front}
 use Rattle.reading.proofs.rule_at.Goals as goal
 
--- rule-found-requires
 pub rule_found-requires : goal.rule_found-requires
 rule_found-requires c =
     let a = c.args in
     let ws = a.words.now in
     λ z. found_front (kind_in ws) (ipv4_shaped (is_large ws)) ws (place_answer (table_of (kind_in ws) ws) a.place) (sym z ∙ c.find_at.ensures.0)
 
--- returns
 pub returns : goal.returns
 returns c =
     let a = c.args in

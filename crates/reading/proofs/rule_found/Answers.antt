@@ -12,25 +12,21 @@ use Rattle.ipv4.proofs.Chosen.{shaped, named}
 use Rattle.reading.proofs.Found.{found_no, found_yes}
 use Rattle.reading.proofs.rule_found.Goals as goal
 
--- returns
 pub returns-then-place-ne0 : goal.returns-then-place-ne0
 returns-then-place-ne0 c =
     let a = c.args in
     let e = c.refused.ensures in
     (e.0, e.1 ∙ found_no (kind_in a.words.now) a.words.now a.place.answer a.place.row c.if-place-ne0.true)
 
--- rows-end-requires
 pub rows_end-from-requires : goal.rows_end-from-requires
 rows_end-from-requires c = let w = shaped c.is_large.result _ c.shape-shape.ensures in (w.narrow, w.few, w.short)
 
--- part-rule-at-end
 pub slice_bounds-rule_at-end : goal.slice_bounds-rule_at-end
 slice_bounds-rule_at-end c =
     let h = named c.is_large.result _ c.shape-shape.ensures c.args.words.now c.is_large.ensures in
     let r = c.requires c.if-place-ne0.false in
     omega (arith, r, c.rows_end-from.ensures.0, ap (λ (k : Kind). k.head) h, ap (λ (k : Kind). k.width * suc k.most) h)
 
--- returns-2
 pub returns : goal.returns
 returns c =
     let w = c.rows_end-from.ensures.0 in

@@ -38,7 +38,6 @@ returns-then-said-ne0 c =
     let a = c.args in
     (c.decide-said.ensures, list_kept (kind_of a.tops.now a.shape) a.words.now (edits_from (length a.tops.now) (a.shape.width + 1) a.count a.edits.now 0) (λ y. c.if-said-ne0.true (ap (λ r. r.answer) c.decide-said.ensures ∙ y)))
 
--- slice-read-c
 pub bounds-words-0 : goal.bounds-words-0
 bounds-words-0 c =
     let a = c.args in
@@ -56,7 +55,6 @@ rows_end-from-requires c = omega (arith, c.requires)
 pub overflow_cast-from : goal.overflow_cast-from
 overflow_cast-from c = omega (arith, c.rows_end-from.ensures)
 
--- cast_end
 pub overflow_cast-end : goal.overflow_cast-end
 overflow_cast-end c =
     let a = c.args in
@@ -69,7 +67,6 @@ overflow_cast-end c =
     let f = c.rows_end-from.ensures.0 in
     omega (arith, w.most)
 
--- mul-end
 pub overflow_mul-end : goal.overflow_mul-end
 overflow_mul-end c =
     let a = c.args in
@@ -82,7 +79,6 @@ overflow_mul-end c =
     let f = c.rows_end-from.ensures.0 in
     omega (arith, w.most)
 
--- add_end
 pub overflow_add-end : goal.overflow_add-end
 overflow_add-end c =
     let a = c.args in
@@ -95,7 +91,6 @@ overflow_add-end c =
     let f = c.rows_end-from.ensures.0 in
     omega (arith, w.most)
 
--- add-end-2
 pub overflow_add-end-2 : goal.overflow_add-end-2
 overflow_add-end-2 c =
     let a = c.args in
@@ -111,7 +106,6 @@ overflow_add-end-2 c =
 pub offset_bounds-words-from : goal.offset_bounds-words-from
 offset_bounds-words-from c = omega (arith, c.rows_end-from.ensures)
 
--- part-drop-end
 pub slice_bounds-drop-end : goal.slice_bounds-drop-end
 slice_bounds-drop-end c =
     let a = c.args in
@@ -127,7 +121,6 @@ slice_bounds-drop-end c =
 pub overflow_cast-tops : goal.overflow_cast-tops
 overflow_cast-tops c = omega (arith, c.requires)
 
--- drop-requires
 pub drop-requires : goal.drop-requires
 drop-requires c =
     let a = c.args in
@@ -140,7 +133,6 @@ drop-requires c =
     let f = c.rows_end-from.ensures.0 in
     sound_planted g c.requires.0 a.words.now o _ f
 
--- slice-relend-prefix-apply-all
 pub slice_bounds-apply_all-end : goal.slice_bounds-apply_all-end
 slice_bounds-apply_all-end c =
     let a = c.args in
@@ -155,7 +147,6 @@ slice_bounds-apply_all-end c =
     let u : Fronts g (get_or a.words.now 0 0) (table_of g a.words.now) es _ = record { right = sound_within g c.requires.0 a.words.now o; text = front_stays g c.requires.0 a.words.now t.passed c.rows_end-from.result (c.rows_end-from.result + (2 + 8 * get_or a.words.now 0 0) - c.rows_end-from.result) c.drop.new.words f; taken = t.taken } in
     omega (arith, l, f, w.long)
 
--- slice-aggregate-apply-all
 pub slice_bounds-apply_all-end-2 : goal.slice_bounds-apply_all-end-2
 slice_bounds-apply_all-end-2 c =
     let a = c.args in
@@ -170,7 +161,6 @@ slice_bounds-apply_all-end-2 c =
     let u : Fronts g (get_or a.words.now 0 0) (table_of g a.words.now) es _ = record { right = sound_within g c.requires.0 a.words.now o; text = front_stays g c.requires.0 a.words.now t.passed c.rows_end-from.result (c.rows_end-from.result + (2 + 8 * get_or a.words.now 0 0) - c.rows_end-from.result) c.drop.new.words f; taken = t.taken } in
     sym (length-take-le _ _ (omega (arith, l, f, w.long)))
 
--- cast-apply-all
 pub overflow_cast-count : goal.overflow_cast-count
 overflow_cast-count c =
     let a = c.args in
@@ -183,7 +173,6 @@ overflow_cast-count c =
     let f = c.rows_end-from.ensures.0 in
     omega (arith, accepted_few g a.words.now (length a.tops.now) (a.shape.width + 1) a.count a.edits.now t)
 
--- apply-all-requires
 pub apply_all-requires : goal.apply_all-requires
 apply_all-requires c =
     let a = c.args in
@@ -199,7 +188,6 @@ apply_all-requires c =
     let few = accepted_few g a.words.now (length a.tops.now) (a.shape.width + 1) a.count a.edits.now t in
     (c.requires.0, few, c.requires.3 few, (_, (_, u)))
 
--- slice-read-n
 pub bounds-words-1 : goal.bounds-words-1
 bounds-words-1 c =
     let a = c.args in
@@ -216,7 +204,6 @@ bounds-words-1 c =
     let y = c.apply_all.ensures (get_or a.words.now 0 0) (table_of g a.words.now) u in
     omega (arith, (ready_bare g c.requires.0 (get_or a.words.now 0 0) _ f a.words.now _ _ w.most w.long c.drop.ensures T y).long)
 
--- plant-requires
 pub plant-requires : goal.plant-requires
 plant-requires c =
     let a = c.args in

@@ -15,7 +15,6 @@ returns-then-number-gt65534 c = (λ z. absurd (omega arith), λ k t h. (gone_1 _
 pub returns-then-not-stands_behind : goal.returns-then-not-stands_behind
 returns-then-not-stands_behind c = (λ z. absurd (omega arith), λ k t h. (gone_4 _ t c.if-number-gt65534.false (sym (c.stands_behind.ensures.1 k t h (c.before-place.ensures.1 k t h)) ∙ c.if-not-stands_behind.true), λ z. absurd (omega arith)))
 
--- take-place-requires
 pub take_place-requires : goal.take_place-requires
 take_place-requires c =
     let n = c.stands_behind.ensures.0 c.if-not-stands_behind.false in

@@ -57,7 +57,6 @@ overflow_add-n c = omega (arith, c.if-shape-n.false, c.struct_known-1.given)
 pub overflow_add-rows : goal.overflow_add-rows
 overflow_add-rows c = omega (arith, c.well_formed, c.requires)
 
--- cast-put-place
 pub overflow_cast-rows : goal.overflow_cast-rows
 overflow_cast-rows c =
     let h = c.requires.0 in
@@ -69,11 +68,9 @@ put_place-requires c = omega (arith, c.if-shape-n.false, c.before-place.ensures,
 pub overflow_add-n-2 : goal.overflow_add-n-2
 overflow_add-n-2 c = omega (arith, c.if-shape-n.false, c.struct_known-1.given)
 
--- cast-fits
 pub overflow_cast-tops : goal.overflow_cast-tops
 overflow_cast-tops c = let h = c.requires.0.shaped in omega (arith, h.ends, h.narrow)
 
--- fits-requires
 pub fits-requires : goal.fits-requires
 fits-requires c =
     let h = c.requires.0 in

@@ -8,13 +8,11 @@ use Rattle.layout.proofs.Passed.{sound_room}
 use Rattle.seek.proofs.Read.{cells_refused, cells_done}
 use Rattle.seek.proofs.cells.Goals as goal
 
--- returns
 pub returns-then-not-check : goal.returns-then-not-check
 returns-then-not-check c =
     let a = c.args in
     cells_refused (kind_of a.tops.now a.shape) c.requires.0 a.words.now (sym c.check.ensures ∙ c.if-not-check.true)
 
--- shared-slice-read-t13
 pub bounds-words-from : goal.bounds-words-from
 bounds-words-from c =
     let a = c.args in
@@ -23,7 +21,6 @@ bounds-words-from c =
     let w = sound_room (kind_of a.tops.now a.shape) c.requires.0 a.words.now o in
     omega (arith, w.long, c.rows_end-from.ensures.0)
 
--- returns-2
 pub returns : goal.returns
 returns c =
     let a = c.args in

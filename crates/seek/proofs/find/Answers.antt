@@ -20,7 +20,6 @@ shape_of-sets-then-not-check c = omega (arith, c.sets-1.given)
 pub shape_of-ends-then-not-check : goal.shape_of-ends-then-not-check
 shape_of-ends-then-not-check c = omega (arith, c.ends-1.given)
 
--- returns
 pub returns-then-not-check : goal.returns-then-not-check
 returns-then-not-check c =
     let a = c.args in
@@ -32,7 +31,6 @@ shape_of-sets-then-number-eq65535 c = omega (arith, c.sets-1.given)
 pub shape_of-ends-then-number-eq65535 : goal.shape_of-ends-then-number-eq65535
 shape_of-ends-then-number-eq65535 c = omega (arith, c.ends-1.given)
 
--- returns-2
 pub returns-then-number-eq65535 : goal.returns-then-number-eq65535
 returns-then-number-eq65535 c =
     let a = c.args in
@@ -47,7 +45,6 @@ shape_of-sets-then-number-gt65534 c = omega (arith, c.sets-1.given)
 pub shape_of-ends-then-number-gt65534 : goal.shape_of-ends-then-number-gt65534
 shape_of-ends-then-number-gt65534 c = omega (arith, c.ends-1.given)
 
--- returns-3
 pub returns-then-number-gt65534 : goal.returns-then-number-gt65534
 returns-then-number-gt65534 c =
     let a = c.args in
@@ -65,7 +62,6 @@ rows_end-from-requires c = omega (arith, c.requires)
 pub overflow_cast-from : goal.overflow_cast-from
 overflow_cast-from c = omega (arith, c.rows_end-from.ensures)
 
--- shared-slice-read-n
 pub bounds-words-1 : goal.bounds-words-1
 bounds-words-1 c =
     let a = c.args in
@@ -83,7 +79,6 @@ slice_bounds-before-count c = omega (arith, c.rows_end-from.ensures)
 pub slice_bounds-before-start : goal.slice_bounds-before-start
 slice_bounds-before-start c = omega (arith, c.rows_end-from.ensures)
 
--- part-before-end
 pub slice_bounds-before-end : goal.slice_bounds-before-end
 slice_bounds-before-end c =
     let a = c.args in
@@ -92,7 +87,6 @@ slice_bounds-before-end c =
     let w = sound_room (kind_of a.tops.now a.shape) c.requires.0 a.words.now o in
     omega (arith, w.long, c.rows_end-from.ensures.0)
 
--- before-requires
 pub before-p-requires : goal.before-p-requires
 before-p-requires c =
     let a = c.args in
@@ -110,7 +104,6 @@ slice_bounds-stands_behind-count c = omega (arith, c.rows_end-from.ensures)
 pub slice_bounds-stands_behind-start : goal.slice_bounds-stands_behind-start
 slice_bounds-stands_behind-start c = omega (arith, c.rows_end-from.ensures)
 
--- part-stands-behind-end
 pub slice_bounds-stands_behind-end : goal.slice_bounds-stands_behind-end
 slice_bounds-stands_behind-end c =
     let a = c.args in
@@ -119,7 +112,6 @@ slice_bounds-stands_behind-end c =
     let w = sound_room (kind_of a.tops.now a.shape) c.requires.0 a.words.now o in
     omega (arith, w.long, c.rows_end-from.ensures.0)
 
--- stands-behind-requires
 pub stands_behind-requires : goal.stands_behind-requires
 stands_behind-requires c =
     let a = c.args in
@@ -134,7 +126,6 @@ shape_of-sets-then-not-stands_behind c = omega (arith, c.sets-1.given)
 pub shape_of-ends-then-not-stands_behind : goal.shape_of-ends-then-not-stands_behind
 shape_of-ends-then-not-stands_behind c = omega (arith, c.ends-1.given)
 
--- returns-4
 pub returns-then-not-stands_behind : goal.returns-then-not-stands_behind
 returns-then-not-stands_behind c =
     let a = c.args in
@@ -143,7 +134,6 @@ returns-then-not-stands_behind c =
     let w = sound_room (kind_of a.tops.now a.shape) c.requires.0 a.words.now o in
     let t = slice_table (kind_of a.tops.now a.shape) a.words.now _ c.rows_end-from.ensures.0 in (find_4 (kind_of a.tops.now a.shape) c.requires.0 a.words.now a.number h c.if-number-eq65535.false c.if-number-gt65534.false (sym (c.stands_behind.ensures ∙ ap (λ t. stands a.number t.rules) t) ∙ c.if-not-stands_behind.true), λ z. absurd (omega arith))
 
--- add_row_start
 pub overflow_add-p : goal.overflow_add-p
 overflow_add-p c =
     let a = c.args in
@@ -152,7 +142,6 @@ overflow_add-p c =
     let w = sound_room (kind_of a.tops.now a.shape) c.requires.0 a.words.now o in
     omega (arith, c.before-p.ensures.1, o.few, c.requires.0.few)
 
--- row-start-requires
 pub row_start-requires : goal.row_start-requires
 row_start-requires c =
     let a = c.args in
@@ -167,7 +156,6 @@ shape_of-sets c = omega (arith, c.sets-1.given)
 pub shape_of-ends : goal.shape_of-ends
 shape_of-ends c = omega (arith, c.ends-1.given)
 
--- returns-5
 pub returns : goal.returns
 returns c =
     let a = c.args in

@@ -67,7 +67,6 @@ returns-then-answer-ne0-2 c =
     let k = kind_of a.tops.now a.shape in
     (search rules, λ t h. delete_step k a.c t _ _ a.edits.now a.at _ 0 (λ z. c.if-word-eq0.false (c.word.ensures ∙ z)) _ c.word-2.ensures ((c.delete_from-answer.ensures.1 k t h).0, λ z. absurd (c.if-answer-ne0-2.true z)))
 
--- sub-t25
 pub overflow_sub-result : goal.overflow_sub-result
 overflow_sub-result c = omega (arith, c.delete_from-answer.ensures.0 c.if-answer-ne0-2.false)
 

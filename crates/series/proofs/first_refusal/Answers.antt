@@ -17,7 +17,6 @@ overflow_cast-stride c = omega (arith, c.struct_known-1.given)
 pub overflow_add-stride : goal.overflow_add-stride
 overflow_add-stride c = omega (arith, c.struct_known-1.given)
 
--- places-requires
 pub places-requires : goal.places-requires
 places-requires c =
     let h = c.requires in
@@ -29,7 +28,6 @@ loop-i-init c =
     let a = c.args in
     (search rules, omega arith, omega (arith, c.requires.0.rowed.fit), refl, refl, refl, going_first (kind_of a.tops.now a.shape) a.c a.n a.rows.now a.edits.now _ (a.shape.width + 1) a.count c.requires.0 c.places.ensures)
 
--- edit-requires
 pub edit-step-requires : goal.edit-step-requires
 edit-step-requires c =
     let l = c.loop-i in
@@ -66,7 +64,6 @@ returns-then-step-ne0 c =
     let a = c.args in
     going_refused (kind_of a.tops.now a.shape) a.c (a.rows.now ++ a.edits.now) l.m l.set a.edits.now (a.shape.width + 1) a.count l.i l.at _ l.invariant.6 c.loop-i-test.true _ _ _ c.edit-step.ensures.1 c.if-step-ne0.true
 
--- add-at
 pub overflow_add-at : goal.overflow_add-at
 overflow_add-at c =
     let l = c.loop-i in
@@ -78,7 +75,6 @@ overflow_add-i c = omega (arith, c.loop-i-test.true, c.well_formed)
 pub loop-i-smaller : goal.loop-i-smaller
 loop-i-smaller c = omega (arith, c.loop-i-test.true)
 
--- loop-again
 pub loop-i-preserved : goal.loop-i-preserved
 loop-i-preserved c =
     let l = c.loop-i in

@@ -7,11 +7,10 @@ use native.Mathlib.Omega.{arith}
 use Rattle.stands.proofs.Steps.{going_start, going_end, going_full, going_no, going_on}
 use Rattle.stands.proofs.run_of.Goals as goal
 
--- loop-holds
 pub loop-i-init : goal.loop-i-init
 loop-i-init c = going_start _ _ _ _ _ c.requires.1 refl
 
--- returns: no cell is left
+-- no cell is left
 pub returns-then-c-next : goal.returns-then-c-next
 returns-then-c-next c = going_full c.loop-i.invariant c.loop-i-test.true c.if-c-next.true
 
@@ -21,14 +20,12 @@ offset_bounds-ends-i c = omega (arith, c.loop-i.invariant.most, c.loop-i-test.tr
 pub bounds-ends-i : goal.bounds-ends-i
 bounds-ends-i c = omega (arith, c.loop-i.invariant.most, c.loop-i-test.true)
 
--- returns-2: the end or the next of a cell is wrong
+-- the end or the next of a cell is wrong
 pub returns-then-not-head_is : goal.returns-then-not-head_is
 returns-then-not-head_is c = going_no c.loop-i.invariant c.loop-i-test.true refl c.head_is.ensures (ap not c.if-not-head_is.true)
 
--- loop-again
 pub loop-i-preserved : goal.loop-i-preserved
 loop-i-preserved c = going_on c.loop-i.invariant c.loop-i-test.true refl c.if-c-next.false c.head_is.ensures (ap not c.if-not-head_is.false)
 
--- returns-3
 pub returns : goal.returns
 returns c = going_end c.loop-i.invariant c.loop-i-test.false

@@ -15,7 +15,6 @@ few : (b : Bool) → (ipv4 b).most ≤ 512
 few true = omega arith
 few false = omega arith
 
--- carry-requires
 pub carry-requires : goal.carry-requires
 carry-requires c =
     let b = c.is_large.result in
@@ -26,7 +25,6 @@ carry-requires c =
     let most : c.shape.result.most ≡ 512 = ap (λ (k : Kind). k.most) e in
     (shaped b _ f, l.0, ap (λ (k : Kind). k.width) f ∙ sym width, omega (arith, most, few b, ap (λ (k : Kind). k.most) f), l.1)
 
--- returns
 pub returns : goal.returns
 returns c =
     let a = c.args in

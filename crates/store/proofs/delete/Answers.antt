@@ -7,21 +7,17 @@ use Rattle.ipv4.proofs.Chosen.{lent, chosen}
 use Rattle.layout.specs.Store.{delete_says, delete_words}
 use Rattle.store.proofs.delete.Goals as goal
 
--- delete-requires
 pub delete-requires : goal.delete-requires
 delete-requires c = lent true _ c.shape.ensures _ _ refl refl
 
--- returns
 pub returns-then-is_large : goal.returns-then-is_large
 returns-then-is_large c =
     let a = c.args in
     chosen true _ c.shape.ensures (λ (q : Kind). (c.delete.result ≡ delete_says q a.words.now a.number) × (c.delete.new.words ≡ delete_words q a.words.now a.number)) a.words.now (sym c.if-is_large.true ∙ c.is_large.ensures) c.delete.ensures
 
--- delete-requires-2
 pub delete-requires-2 : goal.delete-requires-2
 delete-requires-2 c = lent false _ c.shape-2.ensures _ _ refl refl
 
--- returns-2
 pub returns : goal.returns
 returns c =
     let a = c.args in

@@ -7,25 +7,21 @@ use lib.ListN.{replicate}
 use Rattle.store.proofs.Listed.{lent_list, list_chosen}
 use Rattle.store.proofs.edit_list.Goals as goal
 
--- edit-list-requires
 pub edit_list-requires : goal.edit_list-requires
 edit_list-requires c =
     let a = c.args in
     lent_list true _ c.shape.ensures (replicate 513 0) _ _ a.list.words a.list.count refl refl refl (search rules)
 
--- returns
 pub returns-then-is_large : goal.returns-then-is_large
 returns-then-is_large c =
     let a = c.args in
     list_chosen true _ c.shape.ensures _ a.list.words a.list.count _ _ (sym c.if-is_large.true ∙ c.is_large.ensures) c.edit_list.ensures
 
--- edit-list-requires-2
 pub edit_list-requires-2 : goal.edit_list-requires-2
 edit_list-requires-2 c =
     let a = c.args in
     lent_list false _ c.shape-2.ensures (replicate 65 0) _ _ a.list.words a.list.count refl refl refl (search rules)
 
--- returns-2
 pub returns : goal.returns
 returns c =
     let a = c.args in

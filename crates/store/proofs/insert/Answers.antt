@@ -10,25 +10,21 @@ use Rattle.table.specs.Rows.{rule_in}
 use Rattle.layout.specs.Store.{insert_says, insert_words}
 use Rattle.store.proofs.insert.Goals as goal
 
--- insert-requires
 pub insert-requires : goal.insert-requires
 insert-requires c =
     let l = lent true _ c.shape.ensures _ _ refl refl in
     (l.0, l.1, c.row_of-row.ensures.0)
 
--- returns
 pub returns-then-is_large : goal.returns-then-is_large
 returns-then-is_large c =
     let a = c.args in
     subst (λ (x : Rule). (c.insert.result ≡ insert_says (kind_in a.words.now) a.words.now x) × (c.insert.new.words ≡ insert_words (kind_in a.words.now) a.words.now x)) c.row_of-row.ensures.1 (chosen true _ c.shape.ensures (λ (q : Kind). (c.insert.result ≡ insert_says q a.words.now (rule_in 6 c.row_of-row.result 0)) × (c.insert.new.words ≡ insert_words q a.words.now (rule_in 6 c.row_of-row.result 0))) a.words.now (sym c.if-is_large.true ∙ c.is_large.ensures) c.insert.ensures)
 
--- insert-requires-2
 pub insert-requires-2 : goal.insert-requires-2
 insert-requires-2 c =
     let l = lent false _ c.shape-2.ensures _ _ refl refl in
     (l.0, l.1, c.row_of-row.ensures.0)
 
--- returns-2
 pub returns : goal.returns
 returns c =
     let a = c.args in

@@ -7,10 +7,8 @@ use Rattle.ipv4.proofs.Chosen.{lent}
 use Rattle.layout.specs.Store.{start_answer, start_words}
 use Rattle.store.proofs.start.Goals as goal
 
--- start-requires
 pub start-requires : goal.start-requires
 start-requires c = lent true _ c.shape.ensures _ _ refl refl
 
--- returns
 pub returns : goal.returns
 returns c = let g = c.args in subst (λ (q : Kind). (c.start.result ≡ start_answer q g.words.now g.c) × (c.start.new.words ≡ start_words q g.words.now g.c g.action)) c.shape.ensures c.start.ensures

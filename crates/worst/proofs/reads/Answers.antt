@@ -7,25 +7,21 @@ use Rattle.ipv4.proofs.Chosen.{lent, chosen}
 use Rattle.worst.specs.Worst.{made, most_of}
 use Rattle.worst.proofs.reads.Goals as goal
 
--- worst-in-requires
 pub worst_in-requires : goal.worst_in-requires
 worst_in-requires c =
     let l = lent true _ c.shape.ensures _ _ refl refl in
     (l.0, l.1, c.requires)
 
--- returns
 pub returns-then-is_large : goal.returns-then-is_large
 returns-then-is_large c =
     let a = c.args in
     chosen true _ c.shape.ensures (λ (q : Kind). made c.worst_in.result.answer c.worst_in.result.reads c.worst_in.new.out ≡ most_of q a.words.now a.out.now) a.words.now (sym c.if-is_large.true ∙ c.is_large.ensures) c.worst_in.ensures
 
--- worst-in-requires-2
 pub worst_in-requires-2 : goal.worst_in-requires-2
 worst_in-requires-2 c =
     let l = lent false _ c.shape-2.ensures _ _ refl refl in
     (l.0, l.1, c.requires)
 
--- returns-2
 pub returns : goal.returns
 returns c =
     let a = c.args in

@@ -3,10 +3,8 @@
 use mathlib.Core.Path.{refl}
 use Rattle.worst.proofs.worst.Goals as goal
 
--- reads-requires
 pub reads-count-requires : goal.reads-count-requires
 reads-count-requires c = refl
 
--- returns
 pub returns : goal.returns
 returns c = c.reads-count.ensures

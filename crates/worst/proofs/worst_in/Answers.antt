@@ -16,7 +16,6 @@ use Rattle.worst.proofs.worst_in.Goals as goal
 pub returns-then-not-check : goal.returns-then-not-check
 returns-then-not-check c = says_9 (kind_of c.args.tops.now c.args.shape) c.args.words.now (sym c.check.ensures ∙ c.if-not-check.true) _
 
--- shared-slice-read-c
 pub bounds-words-0 : goal.bounds-words-0
 bounds-words-0 c = omega (arith, ((let h_wide : Roomy (kind_of c.args.tops.now c.args.shape) (cells_in c.args.words.now) c.args.words.now = room (kind_of c.args.tops.now c.args.shape) c.requires.0 c.args.words.now ((let h_passed : passes (kind_of c.args.tops.now c.args.shape) c.args.words.now ≡ true = sym c.check.ensures ∙ c.if-not-check.false in h_passed)) in h_wide)).long)
 
@@ -33,15 +32,12 @@ overflow_add-end c = omega (arith, ((let h_wide : Roomy (kind_of c.args.tops.now
 pub overflow_add-end-2 : goal.overflow_add-end-2
 overflow_add-end-2 c = omega (arith, ((let h_wide : Roomy (kind_of c.args.tops.now c.args.shape) (cells_in c.args.words.now) c.args.words.now = room (kind_of c.args.tops.now c.args.shape) c.requires.0 c.args.words.now ((let h_passed : passes (kind_of c.args.tops.now c.args.shape) c.args.words.now ≡ true = sym c.check.ensures ∙ c.if-not-check.false in h_passed)) in h_wide)).most, c.rows_end-from.ensures.1)
 
--- part-best-end
 pub slice_bounds-best-end : goal.slice_bounds-best-end
 slice_bounds-best-end c = omega (arith, ((let h_wide : Roomy (kind_of c.args.tops.now c.args.shape) (cells_in c.args.words.now) c.args.words.now = room (kind_of c.args.tops.now c.args.shape) c.requires.0 c.args.words.now ((let h_passed : passes (kind_of c.args.tops.now c.args.shape) c.args.words.now ≡ true = sym c.check.ensures ∙ c.if-not-check.false in h_passed)) in h_wide)).long, c.rows_end-from.ensures.0)
 
--- best-requires
 pub best-past-requires : goal.best-past-requires
 best-past-requires c = (part_here (cells_in c.args.words.now) _ c.args.words.now (omega (arith, ((let h_wide : Roomy (kind_of c.args.tops.now c.args.shape) (cells_in c.args.words.now) c.args.words.now = room (kind_of c.args.tops.now c.args.shape) c.requires.0 c.args.words.now ((let h_passed : passes (kind_of c.args.tops.now c.args.shape) c.args.words.now ≡ true = sym c.check.ensures ∙ c.if-not-check.false in h_passed)) in h_wide)).long, c.rows_end-from.ensures.0)), ((let h_wide : Roomy (kind_of c.args.tops.now c.args.shape) (cells_in c.args.words.now) c.args.words.now = room (kind_of c.args.tops.now c.args.shape) c.requires.0 c.args.words.now ((let h_passed : passes (kind_of c.args.tops.now c.args.shape) c.args.words.now ≡ true = sym c.check.ensures ∙ c.if-not-check.false in h_passed)) in h_wide)).most, omega (arith, c.requires.0.ends, c.requires.0.narrow), c.requires.2)
 
--- sub-t17
 pub overflow_sub-result : goal.overflow_sub-result
 overflow_sub-result c = omega (arith, past_is (kind_of c.args.tops.now c.args.shape) c.requires.0 c.args.words.now ((let h_passed : passes (kind_of c.args.tops.now c.args.shape) c.args.words.now ≡ true = sym c.check.ensures ∙ c.if-not-check.false in h_passed)) _ c.rows_end-from.ensures.0 _ _ _ c.best-past.ensures)
 
