@@ -1,4 +1,4 @@
--- What the program writes of a whole capture: turn after turn it writes the records of the packets whose lookup gave the action, and reading what it wrote gives exactly these packets, in order, ended at an edge.
+-- The words for what the program writes of a whole capture: turn after turn the records of the packets whose lookup gave the action. proofs/Whole.antt shows the turn, and that reading what it wrote gives exactly these packets, in order, ended at an edge.
 -- Assumes nothing.
 use Rattle.std.specs.Prelude.{take, drop, get_or}
 use mathlib.Core.List.{List, [], ◌++◌}

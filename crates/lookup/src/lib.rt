@@ -116,6 +116,7 @@ fn decide(words: &[u32], c: u32, values: &[u32], tops: &[u32], shape: Shape) -> 
 }
 
 // The lookup of some values, one for each field, in a store of a kind: 9 at once where the words name another kind, or no number of cells within its limits, or are too few for it.
+#[inline(always)]
 pub fn lookup_in(words: &[u32], values: &[u32], tops: &[u32], shape: Shape) -> Found
     requires { Shaped (kind_of tops.now shape) × (length values.now ≤ 64) }
     ensures { result ≡ lookup_in (kind_of tops.now shape) words.now values.now }
@@ -139,7 +140,7 @@ pub fn lookup_in(words: &[u32], values: &[u32], tops: &[u32], shape: Shape) -> F
     decide(words, c, values, tops, shape)
 }
 
-// The lookup of a packet's six values, in a store of the kind that word 2 names: 11 where one is above its top. Each kind has a branch of its own, so that the place of the first link does not wait for word 2 to be loaded.
+// The lookup of a packet's six values, in a store of the kind that word 2 names: 11 where one is above its top. Each kind has a branch of its own, so that the place of the first link does not wait for word 2 to be loaded. Fewer than three words name none, and are refused before, so that word 2 is loaded once.
 pub fn lookup(
     words: &[u32],
     destination: u32,
@@ -169,6 +170,9 @@ pub fn lookup(
         source_port,
         portless,
     ];
+    if words.len() < 3 {
+        return refuse(9);
+    }
     if ipv4::is_large(words) {
         return lookup_in(words, &values, &ipv4::TOPS, ipv4::shape(true));
     }

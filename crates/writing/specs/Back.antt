@@ -1,4 +1,4 @@
--- What is written is read back: the file of a header and any records holds exactly those packets, in order, and ends at an edge; and that file is what a begin and any adds leave, each behind the last in one output.
+-- The words for reading back what is written: the file of a header and any records, and what a begin and any adds leave, each behind the last in one output. proofs/Back.antt shows that the file holds exactly those packets, in order, and ends at an edge, and that it is what these calls leave.
 -- Assumes nothing.
 use Rattle.std.specs.Prelude.{ℕ, ◌+◌, ◌≤◌, ◌<◌, ◌≡◌, cond, List, [], ◌∷◌, ◌++◌, map, eqb, length, take, drop}
 use Rattle.capture.specs.Pcap.{read, reading}

@@ -5,10 +5,10 @@ use mathlib.Core.Bool.{true, false}
 use mathlib.Core.List.{List, [], ◌∷◌}
 use Prim.Native.Nat.{ℕ}
 use Rattle.model.specs.Table.{Kind}
-use Rattle.model.specs.Ipv4.{kind_in}
+use Rattle.model.specs.Ipv4.{kind_in, is_large, ipv4_shaped}
 use Rattle.ipv4.proofs.Chosen.{shaped, named}
 use Rattle.lookup.specs.Walk.{lookup_in}
-use Rattle.lookup.proofs.Steps.{wrong_11, right_in}
+use Rattle.lookup.proofs.Steps.{no_word, wrong_11, right_in}
 use borrow.Author.Rules.{rules}
 use Rattle.lookup.proofs.lookup.Goals as goal
 
@@ -16,7 +16,15 @@ use Rattle.lookup.proofs.lookup.Goals as goal
 pub returns-then-not-right : goal.returns-then-not-right
 returns-then-not-right c = c.refuse.ensures ∙ sym (wrong_11 (kind_in c.args.words.now) _ _ (sym c.right.ensures ∙ c.if-not-right.true))
 
--- none is, and the store is large
+-- none is, and the words are fewer than three
+pub returns-then-words-lt3 : goal.returns-then-words-lt3
+returns-then-words-lt3 c =
+    let a = c.args in
+    let ws = a.words.now in
+    let vs : List ℕ = a.destination ∷ a.source ∷ a.protocol ∷ a.destination_port ∷ a.source_port ∷ a.portless ∷ [] in
+    c.refuse-then-words-lt3.ensures ∙ (no_word (kind_in ws) ws vs (ipv4_shaped (is_large ws)) c.if-words-lt3.true ∙ sym (right_in (kind_in ws) ws vs (sym c.right.ensures ∙ c.if-not-right.false)))
+
+-- the store is large
 pub lookup_in-requires : goal.lookup_in-requires
 lookup_in-requires c = (shaped true _ c.shape.ensures, search rules)
 
