@@ -23,7 +23,8 @@ The form is that of `rt must-fail`, one line for each part:
     # what must hold and the edit breaks, or what the edit does wrong
     # shape: why a refusal by the proof's shape is all that can be had   (optional)
     # limit: why the prover can only run into a limit                    (optional)
-    file: src/lib.rt          a file below src/ or specs/, for the pairs that follow
+    file: src/lib.rt          a file below src/ or specs/, for the pairs that follow; or below proofs/,
+                              where an answer's name has the literal that the edit changes
     old: text                 it stands in that file exactly once
     new: text                 what stands there instead
 Each 'old:' goes by the file as the pairs before it left it. Any other line that is
@@ -98,8 +99,8 @@ class Edit:
         texts = {}
         for file, old, new in self.changes:
             path = ROOT / 'crates' / self.crate / file
-            if not file.startswith(('src/', 'specs/')) or '..' in file or not path.is_file():
-                return "'file: %s' names no file of the crate below src/ or specs/" % file
+            if not file.startswith(('src/', 'specs/', 'proofs/')) or '..' in file or not path.is_file():
+                return "'file: %s' names no file of the crate below src/, specs/ or proofs/" % file
             text = texts.get(file) or path.read_text()
             if not old or text.count(old) != 1:
                 return ('this text stands in %s %d times, not once: %s'
