@@ -257,6 +257,8 @@ class Finder:
             return
         args = self.source.parts(i + 2, self.source.closes[i + 1])
         types = [t for _, t in f.params]
+        if len(args) != len(types):
+            return  # a method or a closure of the same name
         self.swaps(i, 'arguments', args, types, every=True)
         for other in self.sources[crate].functions:
             same = [t for _, t in other.params] == types and other.result == f.result
@@ -322,7 +324,7 @@ class Finder:
         return self.known
 
     def binding(self, i, until):
-        end = self.source.at_level(i, ';')
+        end = self.source.at_level(i, '{' if self.w[i - 1] in ('if', 'while') else ';')
         equals = self.source.at_level(i, '=')
         mutable = self.w[i + 1] == 'mut'
         at = i + 1 + mutable

@@ -1,43 +1,67 @@
 // The check of a store of any kind, and whether words have room for one. Words are only read.
 #![tactic(auto)]
 
-ghost use Rattle.std.specs.Prelude.{◌≡◌, suc, ◌+◌, ◌*◌, ◌≤◌, length};
+ghost use Rattle.std.specs.Prelude.{◌≡◌, ℕ, suc, ◌+◌, ◌*◌, ◌≤◌, length, get_or};
 ghost use Rattle.model.specs.Lists.{same};
-ghost use Rattle.model.specs.Table.{Shaped};
 ghost use Rattle.rows.specs.Rows.{tree_at, Scratch};
 ghost use Rattle.cells.specs.Text.{part};
 ghost use Rattle.table.specs.Rows.{kind_of, Rowed, places as places_of};
-ghost use Rattle.layout.specs.Store.{size, room_for, passes};
+ghost use Rattle.model.specs.Table.{front};
+ghost use Rattle.layout.specs.Store.{size, rows_of, part_of, room_for, passes};
 ghost use Rattle.layout.specs.Inner.{table_stands, body_stands};
 
 use table::Shape;
 
 // Whether c is within its limits and the words are enough for it.
-pub fn room_for(words: &[u32], c: u32, tops: &[u32], shape: Shape) -> bool
-    requires { Shaped (kind_of tops.now shape) }
-    ensures { result ≡ room_for (kind_of tops.now shape) c words.now }
+pub fn room_for(words: &[u32], c: u32, shape: &Shape) -> bool
+    ensures { result ≡ room_for (kind_of shape.now) c words.now }
 {
-    if c < (tops.len() as u32) {
+    if c < (shape.tops.len() as u32) {
         return false;
     }
     if 65536 < c {
         return false;
     }
-    (table::rows_end(shape) as usize) + (2 + 8 * (c as usize)) <= words.len()
+    (shape.rows_end() as usize) + (2 + 8 * (c as usize)) <= words.len()
+}
+
+// How many fields there are, by their tops. Each top fits a word, as the type of the slice says: a search that writes a record of values down rests on it.
+pub fn fields(tops: &[u32]) -> u32
+    requires { length tops.now ≤ 15 }
+    ensures { (result ≡ length tops.now) × ((i : ℕ) → get_or tops.now i 0 ≤ 4294967295) }
+{
+    tops.len() as u32
+}
+
+// The rows of a store or of an image, as a slice of its words.
+pub fn rows<'a>(words: &'a [u32], shape: &Shape) -> &'a [u32]
+    requires { front (kind_of shape.now) ≤ length words.now }
+    ensures { result.now ≡ rows_of (kind_of shape.now) words.now }
+{
+    &words[shape.head as usize..shape.rows_end() as usize]
+}
+
+// The part of a store of c cells, from its two links on, as a slice of its words.
+pub fn part<'a>(words: &'a [u32], c: u32, shape: &Shape) -> &'a [u32]
+    requires { (c ≤ 65536) × (size (kind_of shape.now) c ≤ length words.now) }
+    ensures { result.now ≡ part_of (kind_of shape.now) c words.now }
+{
+    let from = shape.rows_end() as usize;
+    &words[from..from + (2 + 8 * (c as usize))]
 }
 
 // Whether the rows are those of a table of n rules within the limits.
-pub fn table_is(rows: &[u32], n: u32, tops: &[u32], shape: Shape) -> bool
-    requires { Rowed (kind_of tops.now shape) n rows.now }
-    ensures { result ≡ table_stands (kind_of tops.now shape) n rows.now }
+pub fn table_is(rows: &[u32], n: u32, shape: &Shape) -> bool
+    requires { Rowed (kind_of shape.now) n rows.now }
+    ensures { result ≡ table_stands (kind_of shape.now) n rows.now }
 {
-    if !table::rows_are(rows, n, tops, shape) {
+    if !table::rows_are(rows, n, shape) {
         return false;
     }
-    if !table::rising(rows, n, tops, shape) {
+    if !table::rising(rows, n, shape) {
         return false;
     }
-    table::all_right(rows, n, tops, shape)
+    table::all_right(rows, n, shape)
 }
 
 // Whether the part of the words from the two links on is the tree of the n rules of the rows, and then the free chain.
@@ -46,59 +70,47 @@ fn tree_is(
     c: u32,
     rows: &[u32],
     n: u32,
-    fields: u32,
-    width: u32,
+    shape: &Shape,
     sets: &mut [u16],
     ends: &mut [u32],
 ) -> bool
-    requires { (length words.now ≡ 2 + 8 * c) × (c ≤ 65536) × (n ≤ 512) × (fields ≤ 62) × (width ≤ 31) × Scratch (suc n) fields sets.old ends.old }
-    ensures { result ≡ same words.now (part c (tree_at rows.now 0 fields (places_of width n))) }
+    requires { (length words.now ≡ 2 + 8 * c) × (c ≤ 65536) × (n ≤ 512) × Scratch (suc n) (length shape.now.tops.now) sets.old ends.old }
+    ensures { result ≡ same words.now (part c (tree_at rows.now 0 (length shape.now.tops.now) (places_of shape.now.width n))) }
 {
-    table::places(width, n, sets);
-    compare::part_is(words, c, rows, sets, (n as usize) + 1, fields, ends)
-}
-
-// Whether what stands behind the head of a store with n rules, which is right, is right too.
-fn body_is(
-    words: &[u32],
-    c: u32,
-    n: u32,
-    tops: &[u32],
-    shape: Shape,
-    sets: &mut [u16],
-    ends: &mut [u32],
-) -> bool
-    requires { Shaped (kind_of tops.now shape) × Scratch (suc shape.most) (length tops.now) sets.old ends.old × (n ≤ shape.most) × (c ≤ 65536) × (size (kind_of tops.now shape) c ≤ length words.now) }
-    ensures { result ≡ body_stands (kind_of tops.now shape) c n words.now }
-{
-    let head = shape.head as usize;
-    let from = table::rows_end(shape) as usize;
-    let end = from + (2 + 8 * (c as usize));
-    if !table_is(&words[head..from], n, tops, shape) {
-        return false;
-    }
-    tree_is(
-        &words[from..end],
+    table::places(shape, n, sets);
+    compare::part_is(
+        words,
         c,
-        &words[head..from],
-        n,
-        tops.len() as u32,
-        shape.width,
+        rows,
         sets,
+        (n as usize) + 1,
+        shape.tops.len() as u32,
         ends,
     )
 }
 
+// Whether what stands behind the head of a store with n rules, which is right, is right too.
+fn body_is(words: &[u32], c: u32, n: u32, shape: &Shape, sets: &mut [u16], ends: &mut [u32]) -> bool
+    requires { Scratch (suc shape.now.most) (length shape.now.tops.now) sets.old ends.old × (n ≤ shape.now.most) × (c ≤ 65536) × (size (kind_of shape.now) c ≤ length words.now) }
+    ensures { result ≡ body_stands (kind_of shape.now) c n words.now }
+{
+    let rows = rows(words, shape);
+    if !table_is(rows, n, shape) {
+        return false;
+    }
+    tree_is(part(words, c, shape), c, rows, n, shape, sets, ends)
+}
+
 // The store check. The sets and the ends of the rules are written into scratch that is lent.
-pub fn check(words: &[u32], tops: &[u32], shape: Shape, sets: &mut [u16], ends: &mut [u32]) -> bool
-    requires { Shaped (kind_of tops.now shape) × Scratch (suc shape.most) (length tops.now) sets.old ends.old }
-    ensures { result ≡ passes (kind_of tops.now shape) words.now }
+pub fn check(words: &[u32], shape: &Shape, sets: &mut [u16], ends: &mut [u32]) -> bool
+    requires { Scratch (suc shape.now.most) (length shape.now.tops.now) sets.old ends.old }
+    ensures { result ≡ passes (kind_of shape.now) words.now }
 {
     if words.len() < 3 {
         return false;
     }
     let c = words[0];
-    if !room_for(words, c, tops, shape) {
+    if !room_for(words, c, shape) {
         return false;
     }
     let n = words[1];
@@ -111,5 +123,5 @@ pub fn check(words: &[u32], tops: &[u32], shape: Shape, sets: &mut [u16], ends: 
     if !table::zeros(words, 3, shape.head as usize) {
         return false;
     }
-    body_is(words, c, n, tops, shape, sets, ends)
+    body_is(words, c, n, shape, sets, ends)
 }

@@ -23,9 +23,6 @@ pub record Filled (w₀ w : List ℕ) (b n k : ℕ) (f g : ℕ → ℕ) : Type 0
   pub apart : (x : ℕ) → (x < 16 * b) ⊎ (16 * (b + n) ≤ x) → get_or w x 0 ≡ get_or w₀ x 0
 
 module _ (w₀ : List ℕ) (b n : ℕ) (f g : ℕ → ℕ) where
-  pub filled_start : Filled w₀ w₀ b n 0 f g
-  filled_start = record { most = omega arith; long = refl; end = λ j h. absurd (omega arith); link = λ j h. absurd (omega arith); apart = λ x h. refl }
-
   pub filled_on : (w : List ℕ) (k e l : ℕ) → Filled w₀ w b n k f g → k < 8 * n → 16 * (b + n) ≤ length w₀ → e ≡ f k → l ≡ g k → Filled w₀ (entered w b k e l) b n (k + 1) f g
   filled_on w k e l o h fits p q =
       record {
@@ -119,23 +116,20 @@ module _ (w₀ : List ℕ) (b n : ℕ) (f g : ℕ → ℕ) where
 abbrev pub Linked : List ℕ → List ℕ → ℕ → ℕ → ℕ → ℕ → ℕ → Type 0
 Linked w₀ w b n from m k = (f g : ℕ → ℕ) (r : List ℕ) → Under w₀ from m f g r → Filled w₀ w b n k (λ i. f (8 * i + 7)) (links_to m from)
 
-pub linked_start : (w₀ : List ℕ) (b n from m : ℕ) → Linked w₀ w₀ b n from m 0
-linked_start w₀ b n from m f g r u = filled_start w₀ b n (λ i. f (8 * i + 7)) (links_to m from)
-
 module _ (w₀ w : List ℕ) (b n from m : ℕ) where
   -- the last end of block k below is what stands there still, since the level above is before it
-  pub last_is : (f g : ℕ → ℕ) (r : List ℕ) (k : ℕ) → Under w₀ from m f g r → Filled w₀ w b n k (λ i. f (8 * i + 7)) (links_to m from) → b + n ≤ from
+  pub last_is : (f g : ℕ → ℕ) (r : List ℕ) (k : ℕ) → Under w₀ from m f g r → ((x : ℕ) → 16 * (b + n) ≤ x → get_or w x 0 ≡ get_or w₀ x 0) → b + n ≤ from
       → (x : Bool) → ltb k m ≡ x → cond x (get_or w (16 * (from + k) + 7) 0) top_end ≡ f (8 * k + 7)
-  last_is f g r k u o h true x =
+  last_is f g r k u same h true x =
       let l = ltb-true k m x in
       let z : 16 * (from + k) + 7 ≡ 16 * from + (16 * k + 7) = omega arith in
-      o.apart (16 * (from + k) + 7) (inr (omega arith)) ∙ rw z (sym (get_or-drop (16 * from) w₀ (16 * k + 7) 0)) ∙ ap (λ y. get_or y (16 * k + 7) 0) u.is ∙ end_word r m k 7 f g l (omega arith)
-  last_is f g r k u o h false x = let l = ltb-false k m x in sym (u.pads (8 * k + 7) (omega arith))
+      same (16 * (from + k) + 7) (omega arith) ∙ rw z (sym (get_or-drop (16 * from) w₀ (16 * k + 7) 0)) ∙ ap (λ y. get_or y (16 * k + 7) 0) u.is ∙ end_word r m k 7 f g l (omega arith)
+  last_is f g r k u same h false x = let l = ltb-false k m x in sym (u.pads (8 * k + 7) (omega arith))
 
   pub linked_on : (k e l : ℕ) → Linked w₀ w b n from m k → k < 8 * n → b + n ≤ from → 16 * (from + m) ≤ length w₀
       → e ≡ cond (ltb k m) (get_or w (16 * (from + k) + 7) 0) top_end → l ≡ links_to m from k → Linked w₀ (entered w b k e l) b n from m (k + 1)
   linked_on k e l o h a fits p q f g r u =
-      filled_on w₀ b n (λ i. f (8 * i + 7)) (links_to m from) w k e l (o f g r u) h (omega arith) (p ∙ last_is f g r k u (o f g r u) a (ltb k m) refl) q
+      filled_on w₀ b n (λ i. f (8 * i + 7)) (links_to m from) w k e l (o f g r u) h (omega arith) (p ∙ last_is f g r k u (λ x s. (o f g r u).apart x (inr s)) a (ltb k m) refl) q
 
   pub linked_done : (k : ℕ) → Linked w₀ w b n from m k → 8 * n ≤ k → b + n ≤ from → 16 * (from + m) ≤ length w₀ → Links w₀ w b n from m
   linked_done k o h a fits f g r u = filled_done w₀ b n (λ i. f (8 * i + 7)) (links_to m from) w k (o f g r u) h (omega arith)
@@ -149,10 +143,13 @@ pub record Upper (w₀ w : List ℕ) (a k at left : ℕ) (f g : ℕ → ℕ) (r 
   pub before : take (16 * at) w ≡ take (16 * at) w₀
   pub same : lay (depth k) a k f g r ≡ lay (depth left) a left f' g' r'
 
-pub record Climbs (w₀ w : List ℕ) (a b k at left : ℕ) : Type 0 where
+-- the level from a block on, of n blocks, is that of the ends that are left
+pub record Climbs (w₀ w : List ℕ) (a b k at n : ℕ) : Type 0 where
+  pub left : ℕ
+  pub size : n ≡ parts left
   pub long : length w ≡ length w₀
-  pub total : at + parts left ≡ a + blocks_up (depth left) left
-  pub low : at + parts left ≤ b + parts k
+  pub total : at + n ≡ a + blocks_up (depth left) left
+  pub low : at + n ≤ b + parts k
   pub over : (f g : ℕ → ℕ) (r : List ℕ) → Under w₀ b (parts k) f g r → Upper w₀ w a k at left f g r
 
 pub size_parts : (d m : ℕ) → parts m ≤ blocks_up d m
@@ -177,71 +174,81 @@ unfolding blocks_up
 size_last d m e = rw e
 
 module _ (w₀ : List ℕ) (a b k : ℕ) where
-  pub climbs_start : b + parts k ≡ a + blocks_up (depth k) k → Climbs w₀ w₀ a b k b k
-  climbs_start h = record { long = refl; total = h; low = omega arith; over = λ f g r u. record { f' = f; g' = g; r' = r; here = u; before = refl; same = refl } }
+  pub climbs_start : (n : ℕ) → n ≡ parts k → b + n ≡ a + blocks_up (depth k) k → Climbs w₀ w₀ a b k b n
+  climbs_start n q h = record { left = k; size = q; long = refl; total = h; low = omega arith; over = λ f g r u. record { f' = f; g' = g; r' = r; here = u; before = refl; same = refl } }
 
-  module _ (w : List ℕ) (at left : ℕ) (o : Climbs w₀ w a b k at left) where
+  module _ (w : List ℕ) (at n : ℕ) (o : Climbs w₀ w a b k at n) where
+    more_left : 1 < n → 8 < o.left
+    more_left h = omega (arith, o.size)
+
     -- the blocks above have their room
-    pub climbs_room : 8 < left → at ≡ a + blocks_up (depth (parts left)) (parts left)
-    climbs_room h = let e = depth_step left h in omega (arith, o.total, rw (e, size_next) at o.total)
+    pub climbs_room : 1 < n → at ≡ a + blocks_up (depth n) n
+    climbs_room h = rw o.size (omega (arith, o.size, o.total, rw (depth_step o.left (more_left h), size_next) at o.total))
 
-    pub climbs_fits : 8 < left → a + parts (parts left) ≤ at
-    climbs_fits h = omega (arith, climbs_room h, size_parts (depth (parts left)) (parts left))
+    pub climbs_fits : 1 < n → a + parts n ≤ at
+    climbs_fits h = omega (arith, climbs_room h, size_parts (depth n) n)
 
-    pub climbs_on : (w' : List ℕ) → 8 < left → length w' ≡ length w → Links w w' (at - parts (parts left)) (parts (parts left)) at (parts left)
-        → Climbs w₀ w' a b k (at - parts (parts left)) (parts left)
-    climbs_on w' h l p =
-        let n = parts left in
-        let up = parts n in
+    pub climbs_on : (w' : List ℕ) (at' n' : ℕ) → 1 < n → n' ≡ parts n → at' + n' ≡ at → length w' ≡ length w → Links w w' at' n' at n → Climbs w₀ w' a b k at' n'
+    climbs_on w' at' n' h q z l p =
         record {
+          left = n;
+          size = q;
           long = l ∙ o.long;
-          total = omega (arith, climbs_room h, climbs_fits h);
-          low = omega (arith, o.low, climbs_fits h);
+          total = z ∙ climbs_room h;
+          low = omega (arith, o.low);
           over = λ f g r u. next f g r (o.over f g r u);
         }
       where
-        next : (f g : ℕ → ℕ) (r : List ℕ) → Upper w₀ w a k at left f g r → Upper w₀ w' a k (at - parts (parts left)) (parts left) f g r
+        next : (f g : ℕ → ℕ) (r : List ℕ) → Upper w₀ w a k at o.left f g r → Upper w₀ w' a k at' n f g r
         next f g r t =
-            let n = parts left in
-            let up = parts n in
-            let v = p t.f' t.g' t.r' t.here in
-            let z : at - up + up ≡ at = omega (arith, climbs_fits h) in
+            let u : Under w at n t.f' t.g' t.r' = rw o.size t.here in
+            let v = p t.f' t.g' t.r' u in
             record {
               f' = λ i. t.f' (8 * i + 7);
               g' = links_to n at;
               r' = level n t.f' t.g' t.r';
-              here = record { is = v.is ∙ rw (z, t.here.is); pads = λ i q. t.here.pads (8 * i + 7) (omega arith) };
-              before = v.before ∙ shorter (at - up) at w w₀ (omega arith) t.before;
-              same = t.same ∙ rw (depth_step left h, lay_next, ← climbs_room h);
+              here = record { is = v.is ∙ rw (z, u.is, q); pads = λ i c. t.here.pads (8 * i + 7) (omega (arith, o.size)) };
+              before = v.before ∙ shorter at' at w w₀ (omega arith) t.before;
+              same = t.same ∙ rw (depth_step o.left (more_left h), lay_next, ← o.size, ← climbs_room h);
             }
           where
             shorter : (x y : ℕ) (s s' : List ℕ) → x ≤ y → take (16 * y) s ≡ take (16 * y) s' → take (16 * x) s ≡ take (16 * x) s'
             shorter x y s s' q e = sym (take-take (16 * x) (16 * y) s (omega arith)) ∙ ap (take (16 * x)) e ∙ take-take (16 * x) (16 * y) s' (omega arith)
 
-    pub climbs_done : left ≤ 8 → Raised w₀ w a b k
+    pub climbs_done : n ≤ 1 → Raised w₀ w a b k
     climbs_done h f g r u =
         let t = o.over f g r u in
-        let d = depth_low left h in
-        let z : at ≡ a = omega (arith, o.total, size_last (depth left) left d) in
+        let left = o.left in
+        let d = depth_low left (omega (arith, o.size)) in
+        let z : at ≡ a = omega (arith, o.total, o.size, size_last (depth left) left d) in
         record { before = rw z at t.before; is = rw z at t.here.is ∙ sym (t.same ∙ lay_last (depth left) a left t.f' t.g' t.r' d) }
 
--- COUNTING THE BLOCKS of m ends: those of the levels passed, and the levels that are left
-pub record Counts (m left total : ℕ) : Type 0 where
-  pub is : blocks_up (depth m) m + parts left ≡ total + blocks_up (depth left) left
+-- COUNTING THE BLOCKS of m ends: those of the levels passed, the last of which has n blocks; and of the levels that are left
+pub record Counts (m n total : ℕ) : Type 0 where
+  pub left : ℕ
+  pub size : n ≡ parts left
+  pub is : blocks_up (depth m) m + n ≡ total + blocks_up (depth left) left
   pub most : total ≤ m
-  pub few : left ≤ m
+  pub few : n ≤ m
 
 module _ (m : ℕ) where
-  pub counts_start : Counts m m (parts m)
-  counts_start = record { is = omega arith; most = omega arith; few = omega arith }
+  pub counts_start : (n : ℕ) → n ≡ parts m → Counts m n n
+  counts_start n q = record { left = m; size = q; is = omega arith; most = omega arith; few = omega arith }
 
-  pub counts_on : (left total : ℕ) → Counts m left total → 8 < left → Counts m (parts left) (total + parts (parts left))
-  counts_on left total o h =
-      let e : blocks_up (depth left) left ≡ blocks_up (depth (parts left)) (parts left) + parts left = rw (depth_step left h) (size_next (depth (parts left)) left) in
-      record { is = omega (arith, o.is); most = omega (arith, o.is, few_blocks m, size_parts (depth (parts left)) (parts left)); few = omega (arith, o.few) }
+  pub counts_on : (n total : ℕ) → Counts m n total → 1 < n → (n' : ℕ) → n' ≡ parts n → Counts m n' (total + n')
+  counts_on n total o h n' q =
+      let left = o.left in
+      let e : blocks_up (depth left) left ≡ blocks_up (depth (parts left)) (parts left) + parts left = rw (depth_step left (omega (arith, o.size))) (size_next (depth (parts left)) left) in
+      record {
+        left = parts left;
+        size = omega (arith, o.size);
+        is = omega (arith, o.is, o.size);
+        most = omega (arith, o.is, o.size, few_blocks m, size_parts (depth (parts left)) (parts left));
+        few = omega (arith, o.few);
+      }
 
-  pub counts_done : (left total : ℕ) → Counts m left total → left ≤ 8 → total ≡ blocks_up (depth m) m
-  counts_done left total o h = omega (arith, o.is, size_last (depth left) left (depth_low left h))
+  pub counts_done : (n total : ℕ) → Counts m n total → n ≤ 1 → total ≡ blocks_up (depth m) m
+  counts_done n total o h = omega (arith, o.is, o.size, size_last (depth o.left) o.left (depth_low o.left (omega (arith, o.size))))
 
 -- A PLACE of a level, written: its end and its link
 module _ (n : ℕ) (f f' g g' : ℕ → ℕ) (r : List ℕ) (q e x : ℕ) (h : q < 8 * n) (same-f : (z : ℕ) → (z ≡ q → ⊥) → f' z ≡ f z) (new-f : f' q ≡ e) (same-g : (z : ℕ) → (z ≡ q → ⊥) → g' z ≡ g z) (new-g : g' q ≡ x) where

@@ -9,6 +9,7 @@ ghost use Rattle.cells.specs.Planted.{Plantable};
 ghost use Rattle.cells.specs.States.{Spare, Laid, Narrows, Buildable, Built};
 
 use cells::Below;
+use rows::Rows;
 
 // Lays the run of the ends of the rules of the set in a field. The ends are written beside, over what stood there.
 fn build_run(
@@ -22,8 +23,7 @@ fn build_run(
     requires { (base ≤ length words.old) × Spare (drop base words.old) c (length (ends_of (field_at (take base words.old) field) set.now)) × (2 * length set.now ≤ length ends.old) }
     ensures { Laid base words.old words.new result c (ends_of (field_at (take base words.old) field) set.now) }
 {
-    let rules = &words[..base];
-    let n = rows::ends_of(rules, &rules[..0], set, field, ends);
+    let n = Rows::of(&words[..base]).ends_of(set, field, ends);
     cells::lay_run(&mut words[base..], c, &ends[..n])
 }
 
@@ -32,8 +32,7 @@ fn narrowed(words: &[u32], base: usize, sets: &mut [u16], n: usize, field: u32, 
     requires { (base ≤ length words.now) × (n + n ≤ length sets.old) }
     ensures { Narrows (take base words.now) sets.old sets.new n result field v }
 {
-    let rules = &words[..base];
-    rows::narrow(rules, &rules[..0], sets, n, field, v)
+    Rows::of(&words[..base]).narrow(sets, n, field, v)
 }
 
 // What stands where no field is left: where the row of the first rule of the set begins.
@@ -65,10 +64,9 @@ fn build_chain(
     if left == 0 {
         return build_leaf(set);
     }
-    let rules = &words[..base];
-    let none = &rules[..0];
-    let high = rows::high(rules, none, rows::first_place(set), field);
-    if rows::flat(rules, none, set, field, high) {
+    let rows = Rows::of(&words[..base]);
+    let high = rows.high(rows::first_place(set), field);
+    if rows.flat(set, field, high) {
         let one = cells::build_one(words, base, c, high);
         if left == 1 {
             cells::write_below(words, base, one, build_leaf(set));
@@ -96,15 +94,14 @@ fn build_under(
     requires { (0 < left) × Buildable words.old base c sets.old n field left ends.old }
     ensures { Built base words.old words.new result c (tree_at (take base words.old) field left (take n sets.old)) }
 {
-    let mut k = words[base];
+    let first = words[base];
     let lowest = build_run(words, base, c, &sets[..n], field, ends);
     let past = words[base];
-    while k < past {
+    for k in first..past {
         let end = cells::end_of(words, base, k);
         let m = narrowed(words, base, sets, n, field, end);
         let below = build_chain(words, base, c, &mut sets[n..], m, field + 1, left - 1, ends);
         cells::write_below(words, base, k, below);
-        k += 1;
     }
     Below {
         down: lowest,

@@ -1,7 +1,6 @@
 -- Small captures, and what they are.
 -- Assumes nothing.
-use Rattle.std.specs.Prelude.{ℕ, ◌≡◌, refl, List, [], ◌∷◌, ◌++◌, take, set}
-use Rattle.capture.specs.declared.Opened.TheVariants.{Refused}
+use Rattle.std.specs.Prelude.{ℕ, ◌≡◌, refl, None, List, [], ◌∷◌, ◌++◌, take, set}
 use Rattle.capture.specs.Pcap.{by_magic, accepted, opened, records_in, records, read, no_capture, reading}
 
 -- a file header, most significant byte first, and the same in reverse
@@ -65,27 +64,27 @@ unfolding big little_three by_magic accepted opened records_in records reading
 other_order = refl
 
 -- refused: version 2.3 and 3.4; a bit set above the link type 101, in either half; 23 bytes; the magic bytes of nanoseconds
-minor : opened (set big 7 3) ≡ Refused
+minor : opened (set big 7 3) ≡ None
 unfolding big by_magic accepted opened
 minor = refl
 
-major : opened (set big 5 3) ≡ Refused
+major : opened (set big 5 3) ≡ None
 unfolding big by_magic accepted opened
 major = refl
 
-high_half : opened (set big 20 0x80) ≡ Refused
+high_half : opened (set big 20 0x80) ≡ None
 unfolding big by_magic accepted opened
 high_half = refl
 
-low_half : opened (set little 21 1) ≡ Refused
+low_half : opened (set little 21 1) ≡ None
 unfolding little by_magic accepted opened
 low_half = refl
 
-short : opened (take 23 big) ≡ Refused
+short : opened (take 23 big) ≡ None
 unfolding big by_magic accepted opened
 short = refl
 
-nanoseconds : opened (0xA1 ∷ 0xB2 ∷ 0x3C ∷ 0x4D ∷ 0 ∷ 2 ∷ 0 ∷ 4 ∷ 0 ∷ 0 ∷ 0 ∷ 0 ∷ 0 ∷ 0 ∷ 0 ∷ 0 ∷ 0 ∷ 0 ∷ 0x40 ∷ 0 ∷ 0 ∷ 0 ∷ 0 ∷ 101 ∷ []) ≡ Refused
+nanoseconds : opened (0xA1 ∷ 0xB2 ∷ 0x3C ∷ 0x4D ∷ 0 ∷ 2 ∷ 0 ∷ 4 ∷ 0 ∷ 0 ∷ 0 ∷ 0 ∷ 0 ∷ 0 ∷ 0 ∷ 0 ∷ 0 ∷ 0 ∷ 0x40 ∷ 0 ∷ 0 ∷ 0 ∷ 0 ∷ 101 ∷ []) ≡ None
 unfolding by_magic accepted opened
 nanoseconds = refl
 

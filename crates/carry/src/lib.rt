@@ -2,11 +2,12 @@
 #![tactic(auto)]
 
 ghost use Rattle.std.specs.Prelude.{◌≡◌, suc, ◌≤◌, length};
-ghost use Rattle.model.specs.Table.{Shaped};
+ghost use Rattle.refusal.specs.Refusals.{answer_of};
 ghost use Rattle.rows.specs.Rows.{Scratch};
 ghost use Rattle.table.specs.Rows.{kind_of};
 ghost use Rattle.layout.specs.Store.{carry_says, carry_words};
 
+use refusal::Refusal;
 use table::Shape;
 
 // What a carry answers. In a store that passes the table's tree has as many locations as cells stand before the first free one, which the first of its two links names.
@@ -14,26 +15,25 @@ fn decide_carry(
     from: &[u32],
     words: &[u32],
     c: u32,
-    tops: &[u32],
-    old: Shape,
-    shape: Shape,
+    old: &Shape,
+    shape: &Shape,
     sets: &mut [u16],
     ends: &mut [u32],
-) -> u32
-    requires { Shaped (kind_of tops.now old) × Shaped (kind_of tops.now shape) × Scratch (suc old.most) (length tops.now) sets.old ends.old }
-    ensures { result ≡ carry_says (kind_of tops.now old) (kind_of tops.now shape) from.now words.now c }
+) -> Result<(), Refusal>
+    requires { (old.now.tops.now ≡ shape.now.tops.now) × Scratch (suc old.now.most) (length old.now.tops.now) sets.old ends.old }
+    ensures { answer_of result ≡ carry_says (kind_of old.now) (kind_of shape.now) from.now words.now c }
 {
-    if !audit::check(from, tops, old, sets, ends) {
-        return 9;
+    if !audit::check(from, old, sets, ends) {
+        return Err(Refusal::Damaged);
     }
-    if !audit::room_for(words, c, tops, shape) {
-        return 8;
+    if !audit::room_for(words, c, shape) {
+        return Err(Refusal::NoRoom);
     }
-    let links = table::rows_end(old) as usize;
+    let links = old.rows_end() as usize;
     if c < from[links] {
-        return 6;
+        return Err(Refusal::TooFewCells);
     }
-    0
+    Ok(())
 }
 
 // Carries the table of a store of the old shape into words that become a store of c cells of the other shape.
@@ -41,26 +41,22 @@ pub fn carry(
     from: &[u32],
     words: &mut [u32],
     c: u32,
-    tops: &[u32],
-    old: Shape,
-    shape: Shape,
+    old: &Shape,
+    shape: &Shape,
     sets: &mut [u16],
     ends: &mut [u32],
-) -> u32
-    requires { Shaped (kind_of tops.now old) × Shaped (kind_of tops.now shape) × (old.width ≡ shape.width) × (old.most ≤ shape.most) × Scratch (suc shape.most) (length tops.now) sets.old ends.old }
-    ensures { (result ≡ carry_says (kind_of tops.now old) (kind_of tops.now shape) from.now words.old c) × (words.new ≡ carry_words (kind_of tops.now old) (kind_of tops.now shape) from.now words.old c) }
+) -> Result<(), Refusal>
+    requires { (old.now.tops.now ≡ shape.now.tops.now) × (old.now.width ≡ shape.now.width) × (old.now.most ≤ shape.now.most) × Scratch (suc shape.now.most) (length shape.now.tops.now) sets.old ends.old }
+    ensures { (answer_of result ≡ carry_says (kind_of old.now) (kind_of shape.now) from.now words.old c) × (words.new ≡ carry_words (kind_of old.now) (kind_of shape.now) from.now words.old c) }
 {
-    let answer = decide_carry(from, words, c, tops, old, shape, sets, ends);
-    if answer != 0 {
-        return answer;
-    }
+    decide_carry(from, words, c, old, shape, sets, ends)?;
     let n = from[1];
     let rows = old.head as usize;
-    let links = table::rows_end(old) as usize;
-    let start = table::rows_end(shape) as usize;
+    let links = old.rows_end() as usize;
+    let start = shape.rows_end() as usize;
     let end = start + (2 + 8 * (c as usize));
     cells::clear(&mut words[start..end], c);
-    front::carried(&mut words[..start], c, n, &from[rows..links], tops, shape);
-    plant::plant(words, c, n, tops, shape, sets, ends);
-    0
+    front::carried(&mut words[..start], c, n, &from[rows..links], shape);
+    plant::plant(words, c, n, shape, sets, ends);
+    Ok(())
 }

@@ -2,24 +2,31 @@
 // A line is written for each case that answers something else, and at last how many cases there were, and how many of them differ.
 #![tactic(auto)]
 
-ghost use Rattle.std.specs.Prelude.{◌≡◌, true, ◌≤◌, length};
+ghost use Rattle.std.specs.Prelude.{◌≡◌, true, ◌+◌, ◌-◌, ◌≤◌, slice_range};
 
+use calls::Call;
 use script::Case;
 use std::io;
 use std::io::Write;
+use std::ops::Range;
 
-// There are two stores, with room for 16,384 words each: the one in hand begins at a word and has so many words, as has the one aside.
-#[derive(Clone, Copy)]
+// The words of two stores, with room for 16,384 each.
+type Words = [u32; 32768];
+
+// Where the store in hand begins among the words, and how many words it has, and the one aside, which begins in the other half.
+#[derive(Drop)]
 struct Hand {
     at: usize,
     here: usize,
     aside: usize,
+    ghost begins: { at ≤ 16384 },
+    ghost here_fits: { here ≤ 16384 },
+    ghost aside_fits: { aside ≤ 16384 },
 }
 
-// How many lines and how many cases there were, and how many of these differ.
-#[derive(Clone, Copy)]
+// How many cases there were, and how many of them differ.
+#[derive(Clone, Copy, Default)]
 struct Tally {
-    lines: u64,
     cases: u64,
     differ: u64,
 }
@@ -30,149 +37,88 @@ fn main(rt: HostRuntime) -> io::Result<()> {
     let mut input = rt.reader();
     let mut output = io::writer(&rt);
     let n = stream::read_full(&mut input, &mut text);
-    let t = run(&text[..n], &mut words, &mut output)?;
-    say(&mut output, "cases ", t.cases)?;
-    say(&mut output, " differ ", t.differ)?;
-    output.write_all(b"\n")
+    let Tally { cases, differ } = run(&text[..n], &mut words, &mut output)?;
+    writeln!(output, "cases {cases} differ {differ}")
 }
 
 // Runs every line of a text.
-fn run<W: Write>(text: &[u8], words: &mut [u32], output: &mut W) -> io::Result<Tally>
-    requires { length words.old ≡ 32768 }
-{
+fn run<W: Write>(text: &[u8], words: &mut Words, output: &mut W) -> io::Result<Tally> {
     let mut hand = Hand {
         at: 0,
         here: 0,
         aside: 0,
     };
-    let mut tally = Tally {
-        lines: 0,
-        cases: 0,
-        differ: 0,
-    };
-    let mut at: usize = 0;
-    while at < text.len() {
-        let end = script::line_end(text, at);
-        let k = script::read(&text[at..end]);
-        hand = moved(k, hand);
-        tally = judged(k, answers(k, words, hand), tally, output)?;
-        if text.len() <= end {
-            return Ok(tally);
+    let mut tally = Tally::default();
+    for (number, line) in (1u64..).zip(text.split(|b| *b == b'\n')) {
+        let Some(case) = script::read(line) else {
+            continue;
+        };
+        let call = Call::of(case.word);
+        hand.turn(call, &case);
+        tally.cases = tally.cases.saturating_add(1);
+        let got = answers(call, &case, words, &hand);
+        if got != case.wanted {
+            tell(output, number, &got)?;
+            tally.differ = tally.differ.saturating_add(1);
         }
-        at = end + 1;
     }
     Ok(tally)
 }
 
-// The store in hand for a call: one of so many words, or the one that was aside.
-fn moved(k: Case, hand: Hand) -> Hand
-    requires { (hand.at ≤ 16384) × (hand.here ≤ 16384) × (hand.aside ≤ 16384) }
-    ensures { (result.at ≤ 16384) × (result.here ≤ 16384) × (result.aside ≤ 16384) }
-{
-    if k.code == calls::SWAP {
-        return Hand {
-            at: 16384 - hand.at,
-            here: hand.aside,
-            aside: hand.here,
-        };
+impl Hand {
+    // Takes the store for a call in hand: one of so many words as are given first, even where the call is refused, or the one that was aside.
+    fn turn(&mut self, call: Option<Call>, case: &Case) {
+        match call {
+            Some(Call::Swap) => {
+                self.at = 16384 - self.at;
+                std::mem::swap(&mut self.here, &mut self.aside);
+            }
+            Some(Call::Room) => {
+                let n = case.first_given();
+                if n <= 16384 {
+                    self.here = n as usize;
+                }
+            }
+            _ => {}
+        }
     }
-    if k.code != calls::ROOM {
-        return hand;
+
+    // The words in hand.
+    fn here(&self) -> Range<usize>
+        ensures { (result.start ≡ self.now.at) × (result.end ≡ self.now.at + self.now.here) }
+    {
+        self.at..self.at + self.here
     }
-    let given = k.given;
-    let n = given[0];
-    if 16384 < n {
-        return hand;
-    }
-    Hand {
-        at: hand.at,
-        here: n as usize,
-        aside: hand.aside,
+
+    // The words aside.
+    fn aside(&self) -> Range<usize>
+        ensures { (result.start ≡ 16384 - self.now.at) × (result.end ≡ 16384 - self.now.at + self.now.aside) }
+    {
+        let from = 16384 - self.at;
+        from..from + self.aside
     }
 }
 
 // Makes the call of a case on the store in hand.
-fn answers(k: Case, words: &mut [u32], hand: Hand) -> [u32; 16]
-    requires words_len { (length words.old ≡ 32768) × (k.byte_count ≤ 128) × (128 ≡ length k.bytes) }
-    requires at_bound { (hand.at ≤ 16384) × (hand.here ≤ 16384) × (hand.aside ≤ 16384) }
+fn answers(call: Option<Call>, case: &Case, words: &mut Words, hand: &Hand) -> [u32; 16] {
+    if call == Some(Call::Same) {
+        return calls::first(u32::from(same(words, hand)));
+    }
+    calls::answers(call, case, &mut words[hand.here()])
+}
+
+// Whether the two stores hold the same words.
+fn same(words: &Words, hand: &Hand) -> bool
+    ensures { result ≡ true → slice_range words.now hand.now.at (hand.now.at + hand.now.here) ≡ slice_range words.now (16384 - hand.now.at) (16384 - hand.now.at + hand.now.aside) }
 {
-    if k.code == calls::SAME {
-        return both(words, hand);
-    }
-    let at = hand.at;
-    let end = at + hand.here;
-    calls::call(k, &mut words[at..end])
-}
-
-// Whether the two stores hold the same words, as a number.
-fn both(words: &[u32], hand: Hand) -> [u32; 16]
-    requires words_len { length words.now ≡ 32768 }
-    requires at_bound { (hand.at ≤ 16384) × (hand.here ≤ 16384) × (hand.aside ≤ 16384) }
-{
-    let at = hand.at;
-    let end = at + hand.here;
-    let from = 16384 - at;
-    let to = from + hand.aside;
-    calls::first(same(&words[at..end], &words[from..to]) as u32)
-}
-
-// The tally with a line more. A line is written where its call answers something else than is wanted. An empty line, and one whose first word is '#', has no case.
-fn judged<W: Write>(k: Case, got: [u32; 16], before: Tally, output: &mut W) -> io::Result<Tally> {
-    let mut t = before;
-    t.lines = more(t.lines);
-    if k.code == 0 {
-        return Ok(t);
-    }
-    if k.code == 35 {
-        return Ok(t);
-    }
-    t.cases = more(t.cases);
-    let wanted = k.wanted;
-    if same(&got, &wanted) {
-        return Ok(t);
-    }
-    tell(output, t.lines, got)?;
-    t.differ = more(t.differ);
-    Ok(t)
-}
-
-// One more, as far as a number can count.
-fn more(n: u64) -> u64 {
-    if n < u64::MAX {
-        return n + 1;
-    }
-    n
-}
-
-// Whether two slices are the same.
-fn same(a: &[u32], b: &[u32]) -> bool
-    ensures { result ≡ true → a.now ≡ b.now }
-{
-    if a.len() != b.len() {
-        return false;
-    }
-    let mut i: usize = 0;
-    while i < a.len() {
-        if a[i] != b[i] {
-            return false;
-        }
-        i += 1;
-    }
-    true
+    &words[hand.here()] == &words[hand.aside()]
 }
 
 // Writes the number of a line and the numbers that its call answers.
-fn tell<W: Write>(output: &mut W, line: u64, got: [u32; 16]) -> io::Result<()> {
-    say(output, "line ", line)?;
-    let mut i: usize = 0;
-    while i < 16 {
-        say(output, " ", got[i] as u64)?;
-        i += 1;
+fn tell<W: Write>(output: &mut W, number: u64, got: &[u32; 16]) -> io::Result<()> {
+    write!(output, "line {number}")?;
+    for n in got {
+        write!(output, " {n}")?;
     }
-    output.write_all(b"\n")
-}
-
-// Writes some words and a number.
-fn say<W: Write>(output: &mut W, words: &str, n: u64) -> io::Result<()> {
-    write!(output, "{words}{n}")
+    writeln!(output)
 }

@@ -17,10 +17,6 @@ use Rattle.cells.proofs.Runs.{gave, back}
 zeros_add : (n m : ℕ) → zeros (n + m) ≡ zeros n ++ zeros m
 zeros_add n m = sym (replicate-append-replicate n m 0)
 
--- one more zero
-pub zero_step : (ws : List ℕ) (i : ℕ) → i < length ws → take i ws ≡ zeros i → take (i + 1) (set ws i 0) ≡ zeros (i + 1)
-zero_step ws i l h = rw (zeros_add i 1, add-one i, take-suc-set ws i 0 l, h)
-
 -- zeros up to cell k, behind the link that says "no cell"
 abbrev pub blank : ℕ → ℕ → List ℕ
 blank c k = c ∷ zeros (8 * k)

@@ -1,43 +1,41 @@
 -- Laying a run, end by end from the highest down.
 -- Assumes nothing.
-use mathlib.Core.Path.{◌≡◌, ◌∙◌}
-use mathlib.Core.List.{List, [], ◌∷◌}
-use Prim.Native.Nat.{ℕ, ◌+◌, ◌-◌, ◌≤◌, ◌<◌}
+use mathlib.Core.Path.{◌≡◌, sym, ◌∙◌}
+use mathlib.Core.List.{List, [], ◌∷◌, ◌++◌, append_assoc, append-nil}
+use Prim.Native.Nat.{ℕ, ◌+◌, ◌<◌}
 use native.Mathlib.Omega.{arith}
-use lib.ListN.{length, get_or, drop, set}
-use lib.Seq.{drop-length, get_or-set_same, get_or-set_other}
-use Rattle.rows.proofs.Insert.{back}
+use lib.ListN.{length, set, length-append}
+use lib.Seq.{get_or-set_same, get_or-set_other}
+use Rattle.std.specs.List.{push}
 use Rattle.cells.specs.Text.{at, cell_word, only_down, frees}
 use Rattle.cells.specs.declared.Below.{Below}
 use Rattle.cells.specs.States.{first_free, wrote, State, plain, Rows}
 use Rattle.cells.proofs.Runs.{took, rows_none, run_room, run_built}
 
--- where the run of the ends es is laid down to the i-th: there is room for the others and n cells more
-pub record Laying (ws es : List ℕ) (h c a n : ℕ) (q : List ℕ) (i : ℕ) : Type 0 where
-  pub rows : Rows ws h c a (i + n) q (plain (drop i es))
-  pub most : i ≤ length es
+-- where the run of the ends es is laid but for the first of them, `left`: there is room for those and n cells more
+pub record Laying (ws es : List ℕ) (h c a n : ℕ) (q left : List ℕ) : Type 0 where
+  pub done : List ℕ
+  pub is : left ++ done ≡ es
+  pub rows : Rows ws h c a (length left + n) q (plain done)
 
-pub laying : {ws : List ℕ} (es : List ℕ) {c a n : ℕ} {q : List ℕ} (i : ℕ) → i ≡ length es → State ws c a a q (frees a (length es + n)) → Laying ws es c c a n q i
+pub laying : {ws : List ℕ} (es : List ℕ) {c a n : ℕ} {q : List ℕ} → State ws c a a q (frees a (length es + n)) → Laying ws es c c a n q es
 unfolding plain
-laying {ws} es {c} {a} {n} {q} i e s =
-    let z : drop i es ≡ [] = rw e (drop-length es) in
-    record { rows = rw z (rows_none ws c a (i + n) q (rw e s)); most = omega arith }
+laying {ws} es {c} {a} {n} {q} s = record { done = []; is = append-nil es; rows = rows_none ws c a (length es + n) q s }
 
-module _ {ws es : List ℕ} {h c a n : ℕ} {q : List ℕ} {i : ℕ} (b : Laying ws es h c a n q i) (p : 0 < i) where
-  more : i + n ≡ 1 + (i - 1 + n)
-  more = omega arith
+module _ {ws es : List ℕ} {h c a n : ℕ} {q left : List ℕ} (b : Laying ws es h c a n q left) (rest : List ℕ) (e : ℕ) (l : left ≡ push rest e) where
+  more : length left + n ≡ 1 + (length rest + n)
+  more = rw (l, length-append rest (e ∷ [])) (omega arith)
 
   pub lay_room : at (first_free ws) 3 < length ws
   lay_room = run_room b.rows _ more
 
-  pub lay_built : {e : ℕ} → e ≡ get_or es (i - 1) 0 → Laying (wrote (took ws) (first_free ws) e h (only_down 0)) es (first_free ws) c a n q (i - 1)
+  pub lay_built : Laying (wrote (took ws) (first_free ws) e h (only_down 0)) es (first_free ws) c a n q rest
   unfolding plain
-  lay_built {e} x =
-      let z : drop (i - 1) es ≡ e ∷ drop i es = rw x (back es i p b.most) in
-      record { rows = rw z (run_built b.rows _ more e); most = omega (arith, b.most) }
+  lay_built = record { done = e ∷ b.done; is = sym (append_assoc rest (e ∷ []) b.done) ∙ rw l at b.is; rows = run_built b.rows _ more e }
 
-pub laid : {ws es : List ℕ} {h c a n : ℕ} {q : List ℕ} {i : ℕ} → Laying ws es h c a n q i → i ≤ 0 → Rows ws h c a n q (plain es)
-laid {ws} {es} {h} {c} {a} {n} {q} {i} b l = let z : i ≡ 0 = omega arith in let y : 0 + n ≡ n = omega arith in rw y at (rw z at b.rows)
+pub laid : {ws es : List ℕ} {h c a n : ℕ} {q left : List ℕ} → Laying ws es h c a n q left → length left ≡ 0 → Rows ws h c a n q (plain es)
+laid {n = n} {left = []} b l = let y : 0 + n ≡ n = omega arith in rw (← b.is, ← y) b.rows
+laid {left = x ∷ rest} b l = absurd (omega arith)
 
 -- the end of a cell that is written
 pub wrote_end : (ws : List ℕ) (k e x : ℕ) (d : Below) → at k 3 < length ws → cell_word (wrote ws k e x d) k 0 ≡ e

@@ -5,7 +5,7 @@ ghost use Rattle.std.specs.Prelude.{◌≡◌, [], ◌∷◌, ◌+◌, ◌*◌, 
 ghost use Rattle.model.specs.Rules.{stop};
 ghost use Rattle.cells.specs.Text.{at, cell_word, below_at, only_down, part};
 ghost use Rattle.cells.specs.Planted.{Planted};
-ghost use Rattle.cells.specs.States.{first_free, wrote, zeros, Spare, Lays, Hangs, Laid, SomeRows, Gives, SomeHeld, SomeLoc, Drops};
+ghost use Rattle.cells.specs.States.{first_free, wrote, Spare, Lays, Hangs, Laid, SomeRows, Gives, SomeHeld, SomeLoc, Drops};
 
 // What is below a cell, its words 2 and 3: the cell where a walk of the next field begins, or in the last field the word at which the row of the rule that the location names begins; and what stands beside that, which is nothing, 0.
 #[derive(Clone, Copy)]
@@ -85,28 +85,15 @@ fn give_cell(words: &mut [u32], k: u32)
     words[0] = k;
 }
 
-// Writes zeros over all words.
-fn zero(words: &mut [u32])
-    ensures { words.new ≡ zeros (length words.old) }
-{
-    let mut i: usize = 0;
-    while i < words.len() {
-        words[i] = 0;
-        i += 1;
-    }
-}
-
 // Makes any words the part of a store with no tree: all its cells are on the free chain.
 pub fn clear(words: &mut [u32], c: u32)
     requires { (length words.old ≡ 2 + 8 * c) × (c ≤ 65536) }
     ensures { words.new ≡ part c stop }
 {
-    zero(words);
+    words.fill(0);
     words[0] = c;
     words[1] = c;
-    let mut cell = c;
-    while 0 < cell {
-        cell -= 1;
+    for cell in (0..c).rev() {
         give_cell(words, cell);
     }
 }
@@ -127,12 +114,10 @@ pub fn lay_run(words: &mut [u32], c: u32, ends: &[u32]) -> u32
     requires { Spare words.old c (length ends.now) }
     ensures { Lays words.old words.new result c ends.now }
 {
-    let mut i = ends.len();
     let mut lowest = c;
-    while 0 < i {
-        i -= 1;
+    for &end in ends.iter().rev() {
         let k = take_cell(words);
-        write_cell(words, k, ends[i], lowest, Below { down: 0, side: 0 });
+        write_cell(words, k, end, lowest, Below { down: 0, side: 0 });
         lowest = k;
     }
     lowest

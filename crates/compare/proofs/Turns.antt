@@ -1,7 +1,7 @@
 -- A comparison that goes down: the loop over the cells of a run, with the tree below each; a chain of one cell; and the whole part.
 -- Assumes nothing.
 use mathlib.Core.Path.{◌≡◌, refl, sym, ap, ◌∙◌}
-use mathlib.Core.Bool.{Bool, true, false, not}
+use mathlib.Core.Bool.{Bool, true, false}
 use mathlib.Core.List.{List, [], ◌∷◌}
 use Prim.Native.Nat.{ℕ, ◌+◌, ◌-◌, ◌*◌, ◌≤◌, ◌<◌}
 use native.Mathlib.Nat.{add-zero}
@@ -11,12 +11,12 @@ use lib.ListN.{length, get_or, take, drop}
 use borrow.Author.Tests.{eqb-true}
 use Rattle.model.specs.Lists.{keep}
 use Rattle.model.specs.Rules.{covers, Tree, cells}
-use Rattle.model.proofs.Tests.{never, and_left, and_right, same_test, was_no, was_yes}
+use Rattle.model.proofs.Tests.{never, and_left, and_right, by_test, same_test}
 use Rattle.rows.specs.Rows.{field_at, tree_at, Flat}
 use Rattle.cells.specs.Text.{cell_word, only_down, frees, first, tree_text, part}
-use Rattle.cells.specs.declared.Below.{Below}
-use Rattle.stands.specs.declared.Told.{Told}
-use Rattle.stands.specs.declared.Told.TheVariants.{Same, Differs}
+use Rattle.std.specs.Prelude.{Option, Some, None}
+use Rattle.std.specs.Bool.{then_some}
+use Rattle.stands.specs.declared.Stands.{Stands}
 use Rattle.model.specs.Lists.{same}
 use Rattle.stands.specs.Stands.{Room, from, told, head_is, rest_is, before, heads_are, told_run}
 use Rattle.model.proofs.UpTo.{same_true, true_same, same_false}
@@ -27,38 +27,38 @@ use Rattle.stands.proofs.Text.{Held, text_rest, told_not, told_held}
 use Rattle.stands.proofs.Steps.{Compared, compared_run, compared_start, compared_end, compared_not, compared_no, compared_on, run_differs, heads_inside}
 
 -- where the loop of compare_run stands, over sets and ends that stood at its start: the set stays
-pub record Comparing (ws : List ℕ) (c : ℕ) (rules sets₀ sets ends₀ ends' : List ℕ) (n f d k : ℕ) (low : Below) (end i b : ℕ) : Type 0 where
-  pub compared : Compared ws c rules (take n sets₀) f d k low end i b
+pub record Comparing (ws : List ℕ) (c : ℕ) (rules sets₀ sets ends₀ ends' : List ℕ) (n f d k : ℕ) (run : Stands) (i b : ℕ) : Type 0 where
+  pub compared : Compared ws c rules (take n sets₀) f d k run i b
   pub set_kept : take n sets ≡ take n sets₀
   pub sets_long : length sets ≡ length sets₀
   pub ends_long : length ends' ≡ length ends₀
 
 -- a turn: m places cover the end of cell i, and the tree of their rules is below it
-pub record Turn (ws : List ℕ) (c : ℕ) (rules sets₀ sets sets' ends₀ ends' : List ℕ) (n m f d k : ℕ) (low : Below) (end i b : ℕ) : Type 0 where
+pub record Turn (ws : List ℕ) (c : ℕ) (rules sets₀ sets sets' ends₀ ends' : List ℕ) (n m f d k : ℕ) (run : Stands) (i b : ℕ) : Type 0 where
   pub some : d ≡ 0 → ⊥
-  pub so_far : Comparing ws c rules sets₀ sets ends₀ ends' n f d k low end i b
+  pub so_far : Comparing ws c rules sets₀ sets ends₀ ends' n f d k run i b
   pub e : ℕ
   pub is_end : e ≡ get_or ws (2 + 8 * i) 0
   pub narrows : Narrows rules sets sets' n m f e
   pub long : length sets' ≡ length sets
   pub fits : n ≤ length sets
   pub room : Room ws c
-  pub inside : i < end
+  pub inside : i < run.past
 
-module _ {ws : List ℕ} {c : ℕ} {rules sets₀ sets sets' ends₀ ends' : List ℕ} {n m f d k : ℕ} {low : Below} {end i b : ℕ} (o : Turn ws c rules sets₀ sets sets' ends₀ ends' n m f d k low end i b)
-    {a : Told} (h : a ≡ told ws c b (tree_at rules (f + 1) (d - 1) (take m (mid_of n (length sets' - n) sets')))) where
+module _ {ws : List ℕ} {c : ℕ} {rules sets₀ sets sets' ends₀ ends' : List ℕ} {n m f d k : ℕ} {run : Stands} {i b : ℕ} (o : Turn ws c rules sets₀ sets sets' ends₀ ends' n m f d k run i b)
+    {a : Option Stands} (h : a ≡ told ws c b (tree_at rules (f + 1) (d - 1) (take m (mid_of n (length sets' - n) sets')))) where
   next_places : take m (mid_of n (length sets' - n) sets') ≡ keep (covers (field_at rules f) (get_or ws (2 + 8 * i) 0)) (take n sets₀)
   next_places = rw (lent n sets' (omega (arith, o.long, o.fits))) (rw (o.is_end, o.so_far.set_kept) at o.narrows.next)
 
-  pub turn_not : a ≡ Differs → Differs ≡ told ws c k (tree_at rules f d (take n sets₀))
+  pub turn_not : a ≡ None → None ≡ told ws c k (tree_at rules f d (take n sets₀))
   turn_not z = compared_not o.some o.so_far.compared o.room o.inside next_places h z
 
-  module _ {past : ℕ} {down : Below} {x : Bool} (u : a ≡ Same past down) (y : x ≡ rest_is ws i down) where
-    pub turn_no : not x ≡ true → Differs ≡ told ws c k (tree_at rules f d (take n sets₀))
+  module _ {under : Stands} {x : Bool} (u : a ≡ Some under) (y : x ≡ rest_is ws i under.says) where
+    pub turn_no : x ≡ false → None ≡ told ws c k (tree_at rules f d (take n sets₀))
     turn_no z = compared_no o.some o.so_far.compared o.room o.inside next_places h u y z
 
-    pub turn_on : not x ≡ false → (ys : List ℕ) {ends2 : List ℕ} → length (put_mid n (length sets' - n) sets' ys) ≡ length sets' → length ends2 ≡ length ends'
-        → Comparing ws c rules sets₀ (put_mid n (length sets' - n) sets' ys) ends₀ ends2 n f d k low end (i + 1) past
+    pub turn_on : x ≡ true → (ys : List ℕ) {ends2 : List ℕ} → length (put_mid n (length sets' - n) sets' ys) ≡ length sets' → length ends2 ≡ length ends'
+        → Comparing ws c rules sets₀ (put_mid n (length sets' - n) sets' ys) ends₀ ends2 n f d k run (i + 1) under.past
     turn_on z ys l1 l2 = record {
       compared = compared_on o.some o.so_far.compared o.room o.inside next_places h u y z;
       set_kept = take_put n (length sets' - n) sets' ys (omega (arith, o.long, o.fits)) ∙ o.narrows.kept ∙ o.so_far.set_kept;
@@ -68,35 +68,34 @@ module _ {ws : List ℕ} {c : ℕ} {rules sets₀ sets sets' ends₀ ends' : Lis
 
 -- where all rules have one range from 0 the chain is one cell, and the same rules are below it
 module _ {ws : List ℕ} {c : ℕ} {rules ps : List ℕ} {f n k e : ℕ} (nz : n ≡ 0 → ⊥) (l : Flat rules f ps e) (r : Room ws c) (m : k ≤ c) {x : Bool} (h : x ≡ heads_are ws c k (e ∷ [])) where
-  pub flat_no : not x ≡ true → Differs ≡ told ws c k (tree_at rules f n ps)
-  flat_no d = compared_run ws c rules ps f n k nz r refl (rw l.one (run_differs ws c k (e ∷ []) (λ z. never (sym z ∙ was_no h d))))
+  pub flat_no : x ≡ false → None ≡ told ws c k (tree_at rules f n ps)
+  flat_no d = compared_run ws c rules ps f n k nz r refl (rw l.one (run_differs ws c k (e ∷ []) (λ z. never (sym z ∙ sym h ∙ d))))
 
-  module _ (d : not x ≡ false) where
+  module _ (d : x ≡ true) where
     pub flat_inside : k < c
-    flat_inside = omega (arith, heads_inside ws c k (e ∷ []) m (was_yes h d))
+    flat_inside = omega (arith, heads_inside ws c k (e ∷ []) m (sym h ∙ d))
 
     head_one : head_is ws k e c ≡ true
     unfolding heads_are before
-    head_one = rw add-zero at (and_right (ltb (k + 0) c) _ (was_yes h d))
+    head_one = rw add-zero at (and_right (ltb (k + 0) c) _ (sym h ∙ d))
 
-    module _ {a : Told} (t : a ≡ told ws c (k + 1) (tree_at rules (f + 1) (n - 1) ps)) where
-      start : Compared ws c rules ps f n k (only_down k) (k + 1) k (k + 1)
+    module _ {a : Option Stands} (t : a ≡ told ws c (k + 1) (tree_at rules (f + 1) (n - 1) ps)) where
+      start : Compared ws c rules ps f n k (record { past = k + 1; says = only_down k }) k (k + 1)
       unfolding told_run before
-      start = compared_start ws c rules ps f n k nz m refl (rw (l.one, was_yes h d, add-zero))
+      start = compared_start ws c rules ps f n k nz m refl (rw (l.one, sym h ∙ d, add-zero))
 
       covered : ps ≡ keep (covers (field_at rules f) (get_or ws (2 + 8 * k) 0)) ps
       unfolding head_is
       covered = let z : get_or ws (2 + 8 * k) 0 ≡ e = rw add-zero at (eqb-true (cell_word ws k 0) e (and_left _ _ head_one)) in rw z (sym l.all)
 
-      pub flat_not : a ≡ Differs → Differs ≡ told ws c k (tree_at rules f n ps)
+      pub flat_not : a ≡ None → None ≡ told ws c k (tree_at rules f n ps)
       flat_not v = compared_not nz start r (omega arith) covered t v
 
-      module _ {past : ℕ} {down : Below} {y : Bool} (u : a ≡ Same past down) (g : y ≡ rest_is ws k down) where
-        pub flat_no_rest : not y ≡ true → Differs ≡ told ws c k (tree_at rules f n ps)
-        flat_no_rest v = compared_no nz start r (omega arith) covered t u g v
-
-        pub flat_same : not y ≡ false → Same past (only_down k) ≡ told ws c k (tree_at rules f n ps)
-        flat_same v = compared_end nz (compared_on nz start r (omega arith) covered t u g v) (omega arith)
+      pub flat_says : {under : Stands} {y : Bool} → a ≡ Some under → y ≡ rest_is ws k under.says → then_some y (record { past = under.past; says = only_down k }) ≡ told ws c k (tree_at rules f n ps)
+      flat_says {under} {y} u g =
+          by_test y
+          (λ v. rw v (compared_end nz (compared_on nz start r (omega arith) covered t u g v) (omega arith)))
+          (λ v. rw v (compared_no nz start r (omega arith) covered t u g v))
 
 -- THE WHOLE PART
 module _ (ws : List ℕ) (c : ℕ) (t : Tree ℕ) where
@@ -113,24 +112,24 @@ module _ (ws : List ℕ) (c : ℕ) (t : Tree ℕ) where
   made (x ∷ []) h = absurd (omega arith)
   made [] h = absurd (omega arith)
 
-  module _ {a : Told} (told-so : a ≡ told ws c 0 t) where
-    pub part_differs : a ≡ Differs → false ≡ same ws (part c t)
+  module _ {a : Option Stands} (told-so : a ≡ told ws c 0 t) where
+    pub part_differs : a ≡ None → false ≡ same ws (part c t)
     part_differs d = sym (same_false ws (part c t) (λ h. told_not ws c t 0 (sym told-so ∙ d) _ (taken h).2))
 
-    module _ {past : ℕ} {low : Below} (u : a ≡ Same past low) where
-      stood : Held ws c t 0 × (past ≡ 0 + cells t) × (low ≡ first c t 0)
-      stood = told_held ws c t 0 past low (sym told-so ∙ u)
+    module _ {tree : Stands} (u : a ≡ Some tree) where
+      stood : Held ws c t 0 × (tree.past ≡ 0 + cells t) × (tree.says ≡ first c t 0)
+      stood = told_held ws c t 0 tree (sym told-so ∙ u)
 
-      ends_at_lem : past ≡ cells t
+      ends_at_lem : tree.past ≡ cells t
       ends_at_lem = omega (arith, stood.1)
 
-      pub part_no_past : (get_or ws 0 0 ≡ past → ⊥) → false ≡ same ws (part c t)
+      pub part_no_past : (get_or ws 0 0 ≡ tree.past → ⊥) → false ≡ same ws (part c t)
       part_no_past d = sym (same_false ws (part c t) (λ h. d ((taken h).0 ∙ sym ends_at_lem)))
 
-      pub part_no_low : (get_or ws 1 0 ≡ low.down → ⊥) → false ≡ same ws (part c t)
+      pub part_no_low : (get_or ws 1 0 ≡ tree.says.down → ⊥) → false ≡ same ws (part c t)
       part_no_low d = sym (same_false ws (part c t) (λ h. d ((taken h).1 ∙ ap (λ b. b.down) (sym stood.2))))
 
-      pub part_rest : length ws ≡ 2 + 8 * c → get_or ws 0 0 ≡ past → get_or ws 1 0 ≡ low.down → (b : Bool) → b ≡ same (from ws past) (frees past (c - past)) → b ≡ same ws (part c t)
+      pub part_rest : length ws ≡ 2 + 8 * c → get_or ws 0 0 ≡ tree.past → get_or ws 1 0 ≡ tree.says.down → (b : Bool) → b ≡ same (from ws tree.past) (frees tree.past (c - tree.past)) → b ≡ same ws (part c t)
       unfolding part
       part_rest n p q b h =
           let v = stood in

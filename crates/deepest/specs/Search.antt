@@ -1,6 +1,6 @@
 -- What the search over the rules says and leaves.
 -- Assumes nothing: these are definitions.
-use Rattle.std.specs.Prelude.{◌≡◌, cond, List, ℕ, zero, suc, ◌-◌, ◌<◌, leb, get_or}
+use Rattle.std.specs.Prelude.{◌≡◌, cond, List, Option, Some, None, ℕ, zero, suc, ◌-◌, ◌<◌, leb, get_or}
 use Rattle.model.specs.Rules.{Tree}
 use Rattle.deepest.specs.Deepest.{greatest, first_greatest}
 
@@ -13,7 +13,7 @@ low_at es (suc i) = suc (get_or es i 0)
 abbrev pub Above : List ℕ → ℕ → Type 0
 Above es i = 0 < i → get_or es (i - 1) 0 < get_or es i 0
 
--- What is said of a tree of numbers against a goal: the greatest, where that is no less than the goal, and the first record that comes to it; else 0, and what was there before
-pub record Met (t : Tree ℕ) (l goal r : ℕ) (before after : List ℕ) : Type 0 where
-  pub says : r ≡ cond (leb goal (greatest t)) (greatest t) 0
+-- What is said of a tree of numbers against a goal: the greatest, where that is no less than the goal, and the first record that comes to it; else nothing, and what was there before
+pub record Met (t : Tree ℕ) (l goal : ℕ) (r : Option ℕ) (before after : List ℕ) : Type 0 where
+  pub says : r ≡ cond (leb goal (greatest t)) (Some (greatest t)) None
   pub written : after ≡ cond (leb goal (greatest t)) (first_greatest l t) before

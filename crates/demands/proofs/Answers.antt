@@ -10,11 +10,13 @@ use lib.ListN.{length}
 use Rattle.model.specs.Table.{Kind, packet_right}
 use Rattle.model.proofs.Tests.{by_test}
 use Rattle.header.specs.declared.Packet.{Packet}
-use Rattle.header.specs.declared.Header.{Header}
-use Rattle.header.specs.declared.Header.TheVariants.{Values, Unreadable, Cut}
-use Rattle.header.specs.Header.{total_length, header_of, answer_of}
+use Rattle.std.specs.Prelude.{Result, Ok, Err}
+use Rattle.refusal.specs.declared.Refusal.{Refusal}
+use Rattle.refusal.specs.declared.Refusal.TheVariants.{Unreadable, Cut}
+use Rattle.refusal.specs.Refusals.{number_of}
+use Rattle.header.specs.Header.{total_length, packet_of, header_of}
 use Rattle.header.specs.Facts.{Faulty, WithinTops}
-use Rattle.header.proofs.Facts.{answer_7_when, answer_14_when, within_tops_lem}
+use Rattle.header.proofs.Facts.{Told, told_unreadable, told_cut, told_values, told, not_faulty, within_tops_lem}
 use Rattle.lookup.specs.declared.Found.{Found}
 use Rattle.lookup.specs.Walk.{refused}
 use Rattle.demands.specs.Calls.{field_count, AboveTop, Bytes}
@@ -62,15 +64,15 @@ module _ {k : Kind} {vs : List ℕ} {U : Type 0} {most : ℕ} {inside found : Fo
   pub few_reads : found.reads ≤ most
   few_reads = by_answer (λ f. f.reads ≤ most) (λ n. omega arith) (λ f e r. r)
 
--- BY A PACKET: the number of the header's case where that gives no values, and else the lookup of its values
+-- BY A PACKET: the number of the header's refusal where it gives no values, and else the lookup of its values
 pub record ByHeader (one : Packet → Found) (bytes : List ℕ) (found : Found) : Type 0 where
-  pub unread : (h : Header) → header_of bytes ≡ h → answer_of h ≢ 0 → found ≡ refused (answer_of h)
-  pub read : (p : Packet) → header_of bytes ≡ Values p → found ≡ one p
+  pub unread : (r : Refusal) → header_of bytes ≡ Err r → found ≡ refused (number_of r)
+  pub read : (p : Packet) → header_of bytes ≡ Ok p → found ≡ one p
 
 module _ {one : Packet → Found} {bytes : List ℕ} {found : Found} (b : ByHeader one bytes found) where
   -- what is said of every refusal, and of the lookup of each record, is said of the lookup by a packet
   pub by_packet : (X : Found → Type 0) → ((a : ℕ) → X (refused a)) → ((p : Packet) → X (one p)) → X found
-  by_packet X u v = by_header (X found) bytes (λ h e n. rw (b.unread h e n) (u (answer_of h))) (λ p e. rw (b.read p e) (v p))
+  by_packet X u v = by_header (X found) bytes (λ r e. rw (b.unread r e) (u (number_of r))) (λ p e. rw (b.read p e) (v p))
 
   pub packet_zeros : ((p : Packet) → (one p).answer ≢ 0 → OnlyAnswer (one p)) → found.answer ≢ 0 → OnlyAnswer found
   packet_zeros z = by_packet (λ f. f.answer ≢ 0 → OnlyAnswer f) (λ a n. refused_zeros a) z
@@ -78,20 +80,14 @@ module _ {one : Packet → Found} {bytes : List ℕ} {found : Found} (b : ByHead
   pub packet_reads : (most : ℕ) → ((p : Packet) → (one p).reads ≤ most) → found.reads ≤ most
   packet_reads most r = by_packet (λ f. f.reads ≤ most) (λ a. omega arith) r
 
-  -- what the header's case has for its number, the lookup answers
-  by_case : (h : Header) → header_of bytes ≡ h → answer_of h ≢ 0 → found.answer ≡ answer_of h
-  by_case h e n = ap answer_in (b.unread h e n)
-
   -- 7, 14, and then what is said of the answer for the values that the header gives
   pub packet_lines : (L : Packet → ℕ → Type 0) → ((p : Packet) → WithinTops p → L p (one p).answer) → Bytes bytes
-      → Refuses 7 (Faulty bytes) (Refuses 14 (length bytes < total_length bytes) (λ answer. (p : Packet) × (header_of bytes ≡ Values p) × L p answer)) found.answer
-  packet_lines L l y = go (header_of bytes) refl
+      → Refuses 7 (Faulty bytes) (Refuses 14 (length bytes < total_length bytes) (λ answer. (p : Packet) × (header_of bytes ≡ Ok p) × L p answer)) found.answer
+  packet_lines L l y = go (header_of bytes) (told bytes) refl
     where
-      go : (h : Header) → header_of bytes ≡ h → Refuses 7 (Faulty bytes) (Refuses 14 (length bytes < total_length bytes) (λ answer. (p : Packet) × (header_of bytes ≡ Values p) × L p answer)) found.answer
-      go Unreadable e = refuses ((answer_7_when bytes).0 (ap answer_of e)) (by_case Unreadable e (λ z. omega (arith, z)))
-      go Cut e =
-          let q = (answer_14_when bytes).0 (ap answer_of e) in
-          goes_on q.0 (refuses q.1 (by_case Cut e (λ z. omega (arith, z))))
-      go (Values p) e =
-          let fine : Faulty bytes → ⊥ = λ r. omega (arith, (answer_7_when bytes).1 r, ap answer_of e) in
-          goes_on fine (goes_on (λ l. omega (arith, (answer_14_when bytes).1 (fine, l), ap answer_of e)) (p, e, rw (b.read p e) (l p (within_tops_lem bytes p y e))))
+      go : (h : Result Packet Refusal) → Told bytes h → header_of bytes ≡ h → Refuses 7 (Faulty bytes) (Refuses 14 (length bytes < total_length bytes) (λ answer. (p : Packet) × (header_of bytes ≡ Ok p) × L p answer)) found.answer
+      go h (told_unreadable f) e = refuses f (ap answer_in (b.unread Unreadable e))
+      go h (told_cut clean c) e = goes_on clean (refuses c (ap answer_in (b.unread Cut e)))
+      go h (told_values r) e =
+          let p = packet_of bytes in
+          goes_on (not_faulty bytes r.sound) (goes_on (λ c. omega (arith, r.whole, c)) (p, e, rw (b.read p e) (l p (within_tops_lem bytes p y e))))

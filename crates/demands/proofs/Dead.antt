@@ -118,7 +118,7 @@ module _ (ws : List ℕ) (n : ℕ) (d : (dead_says (kind_in ws) ws n).dead ≡ 1
   -- by packet: its header gives no values, or those of a record within the tops
   same_packet : (bytes : List ℕ) → Bytes bytes → SameRule (lookup_packet after bytes) (lookup_packet ws bytes)
   same_packet bytes b = by_header (SameRule (lookup_packet after bytes) (lookup_packet ws bytes)) bytes
-      (λ g e u. rw (refused_by after bytes g e u, refused_by ws bytes g e u) (refl, refl, refl))
+      (λ r e. rw (refused_by after bytes r e, refused_by ws bytes r e) (refl, refl, refl))
       (λ p e. rw (readable_is after bytes p e, readable_is ws bytes p e) (same p (within_tops_lem bytes p b e)))
 
 pub dead : Dead

@@ -19,7 +19,7 @@ use Rattle.model.proofs.Limits.{from_within, distinct, not_standing, rising_plac
 use Rattle.model.proofs.Decide.{default_cells, winner_in, winner_holds, winner_least}
 use Rattle.model.proofs.Edits.{from_added, in_added, from_removed, in_removed, delete_fewer}
 use Rattle.header.specs.declared.Packet.{Packet}
-use Rattle.header.specs.declared.Header.TheVariants.{Values}
+use Rattle.std.specs.Prelude.{Ok}
 use Rattle.header.specs.Header.{header_of}
 use Rattle.header.specs.Facts.{WithinTops}
 use Rattle.header.proofs.Facts.{within_tops_lem}
@@ -148,7 +148,7 @@ one_struct g h a b e =
 record_names : (ws : List ℕ) → Passes (kind_in ws) ws → (p : Packet) → WithinTops p → Names (kind_in ws) ws (values_in p) (lookup ws p)
 record_names ws h p t = names (kind_in ws) (shaped_in ws) ws h (values_in p) (tops_right p t)
 
-packet_names : (ws : List ℕ) → Passes (kind_in ws) ws → (bytes : List ℕ) → Bytes bytes → (p : Packet) → header_of bytes ≡ Values p → WithinTops p × Names (kind_in ws) ws (values_in p) (lookup_packet ws bytes)
+packet_names : (ws : List ℕ) → Passes (kind_in ws) ws → (bytes : List ℕ) → Bytes bytes → (p : Packet) → header_of bytes ≡ Ok p → WithinTops p × Names (kind_in ws) ws (values_in p) (lookup_packet ws bytes)
 packet_names ws h bytes b p e = let t = within_tops_lem bytes p b e in (t, rw (readable_is ws bytes p e) (record_names ws h p t))
 
 pub demand2 : Demand2

@@ -14,7 +14,7 @@ use Rattle.model.proofs.Tests.{by_test}
 use Rattle.model.proofs.Limits.{same_set}
 use Rattle.model.proofs.Decide.{reads_each_lem, reads_most, reads_tight}
 use Rattle.header.specs.declared.Packet.{Packet}
-use Rattle.header.specs.declared.Header.TheVariants.{Values}
+use Rattle.std.specs.Prelude.{Ok}
 use Rattle.header.specs.Header.{header_of}
 use Rattle.header.specs.Facts.{WithinTops}
 use Rattle.header.proofs.Facts.{within_tops_lem}
@@ -83,7 +83,7 @@ module _ (ws vs : List ℕ) (g : Passes (kind_in ws) ws) (h : Passes (kind_in vs
 
     same_packet : (bytes : List ℕ) → lookup_packet ws bytes ≡ lookup_packet vs bytes
     same_packet bytes = by_header (lookup_packet ws bytes ≡ lookup_packet vs bytes) bytes
-        (λ a u n. refused_by ws bytes a u n ∙ sym (refused_by vs bytes a u n))
+        (λ r u. refused_by ws bytes r u ∙ sym (refused_by vs bytes r u))
         (λ p u. readable_is ws bytes p u ∙ same_lookup (values_in p) ∙ sym (readable_is vs bytes p u))
 
     pub twins : Twins ws vs
@@ -136,7 +136,7 @@ module _ (k : Kind) (s : Shaped k) where
 record_count : (ws : List ℕ) → Passes (kind_in ws) ws → (p : Packet) → WithinTops p → Reads (kind_in ws) (every_in (kind_in ws) ws) (values_in p) (lookup ws p).reads
 record_count ws h p t = count (kind_in ws) (shaped_in ws) ws h (values_in p) (tops_right p t)
 
-packet_count : (ws : List ℕ) → Passes (kind_in ws) ws → (bytes : List ℕ) → Bytes bytes → (p : Packet) → header_of bytes ≡ Values p → Reads (kind_in ws) (every_in (kind_in ws) ws) (values_in p) (lookup_packet ws bytes).reads
+packet_count : (ws : List ℕ) → Passes (kind_in ws) ws → (bytes : List ℕ) → Bytes bytes → (p : Packet) → header_of bytes ≡ Ok p → Reads (kind_in ws) (every_in (kind_in ws) ws) (values_in p) (lookup_packet ws bytes).reads
 packet_count ws h bytes b p e = rw (readable_is ws bytes p e) (record_count ws h p (within_tops_lem bytes p b e))
 
 record_each : (ws : List ℕ) (h : Passes (kind_in ws) ws) (p : Packet) (t : WithinTops p) → (i : ℕ) → i < field_count (kind_in ws) → 1 + length ((record_count ws h p t).ends i) ≤ 2 * length (rules_in (kind_in ws) ws) + 1
@@ -145,7 +145,7 @@ record_each ws h p t = most_each (kind_in ws) (shaped_in ws) ws h (values_in p) 
 
 packet_tight : (ws : List ℕ) → Passes (kind_in ws) ws → (bytes : List ℕ) → Bytes bytes → (lookup_packet ws bytes).reads ≤ (field_count (kind_in ws) + 1) * length (rules_in (kind_in ws) ws) + field_count (kind_in ws)
 packet_tight ws h bytes b = by_header _ bytes
-    (λ a u n. rw (refused_by ws bytes a u n) (omega arith))
+    (λ r u. rw (refused_by ws bytes r u) (omega arith))
     (λ p e. rw (readable_is ws bytes p e) (tight (kind_in ws) (shaped_in ws) ws h (values_in p) (tops_right p (within_tops_lem bytes p b e))))
 
 pub demand3 : Demand3

@@ -15,7 +15,7 @@ use Rattle.model.specs.Ipv4.{ipv4, large, is_large, kind_in}
 use Rattle.model.proofs.Tests.{by_test}
 use Rattle.model.proofs.Limits.{from_within}
 use Rattle.header.specs.declared.Packet.{Packet}
-use Rattle.header.specs.declared.Header.TheVariants.{Values}
+use Rattle.std.specs.Prelude.{Ok, Err}
 use Rattle.header.specs.Header.{header_of}
 use Rattle.header.specs.Facts.{WithinTops}
 use Rattle.header.proofs.Facts.{within_tops_lem}
@@ -29,7 +29,7 @@ use Rattle.lookup.proofs.Steps.{wrong_11}
 use Rattle.tally.specs.declared.Tallies.{Tallies}
 use Rattle.tally.specs.Tally.{tally_answer, tallies_left}
 use Rattle.image.specs.Image.{image_in, image_lookup, image_packet, image_tally, image_tallies}
-use Rattle.image.proofs.Steps.{right_in, no_values, by_values, wrong_11 as image_11}
+use Rattle.image.proofs.Steps.{right_in, by_header as looked_over, wrong_11 as image_11}
 use Rattle.image.proofs.Tree.{Words}
 use Rattle.demands.specs.Calls.{Passes, rules_in, every_in, field_count, values_in, Bytes, lookup}
 use Rattle.demands.specs.Blocks.{ImageUndecided}
@@ -41,7 +41,7 @@ use Rattle.demands.specs.Frozen.{image_of, total_of, IsImage, SameImages, lookup
 use Rattle.demands.proofs.KindNamed.{shaped_in, by_pass, pass_in, image_large}
 use Rattle.demands.proofs.Held.{room, right, fits, checked_0}
 use Rattle.demands.proofs.Packets.{tops_right, refused_by, readable_is, by_header}
-use Rattle.demands.proofs.Answers.{Answers, lookup_lines, right_lines, zeros, few_reads, ByHeader, by_packet, packet_zeros, packet_reads, packet_lines}
+use Rattle.demands.proofs.Answers.{Answers, lookup_lines, right_lines, zeros, few_reads, ByHeader, packet_zeros, packet_reads, packet_lines}
 use Rattle.demands.proofs.Decided.{lookup_is}
 use Rattle.demands.proofs.Tally.{found_before, found_13, found_zeros, found_kept, found_done, found_same, found_left}
 use Rattle.demands.proofs.Demand1.{check_line}
@@ -110,7 +110,7 @@ over_answers image p =
     }
 
 pub over_header : (image bytes : List ℕ) → ByHeader (lookup_over image) bytes (image_packet image bytes)
-over_header image bytes = record { unread = λ h e n. sym (no_values image bytes h (sym e) n); read = λ p e. sym (by_values image bytes p (sym e)) }
+over_header image bytes = record { unread = λ r e. sym (looked_over image bytes (Err r) (sym e)); read = λ p e. sym (looked_over image bytes (Ok p) (sym e)) }
 
 over_zeros : (image bytes : List ℕ) → (image_packet image bytes).answer ≢ 0 → OnlyAnswer (image_packet image bytes)
 over_zeros image bytes = packet_zeros (over_header image bytes) (λ p. zeros (over_answers image p))
@@ -133,7 +133,7 @@ module _ (ws : List ℕ) (h : Passes (kind_in ws) ws) (rest : List ℕ) where
 
   same_packet : (bytes : List ℕ) → SameRule (image_packet W bytes) (lookup_packet ws bytes)
   same_packet bytes = by_header _ bytes
-      (λ a u n. rw ((over_header W bytes).unread a u n, refused_by ws bytes a u n) (refl, refl, refl))
+      (λ r u. rw ((over_header W bytes).unread r u, refused_by ws bytes r u) (refl, refl, refl))
       (λ p u. rw ((over_header W bytes).read p u, readable_is ws bytes p u) (same_values p))
 
   most : (p : Packet) (L : ℕ) → 1 ≤ L → 2 * length (rules_in (kind_in ws) ws) + 1 ≤ 8 ^ L → (lookup_over W p).reads ≤ field_count (kind_in ws) * L
@@ -150,10 +150,10 @@ module _ (ws : List ℕ) (h : Passes (kind_in ws) ws) (rest : List ℕ) where
   count : (p : Packet) → WithinTops p → BlocksRead (kind_in ws) (every_in (kind_in ws) ws) (values_in p) (lookup_over W p).reads
   count p t = rw (over_is (values_in p) (tops_right p t)) (blocks_read (kind_in ws) (values_in p) (every_in (kind_in ws) ws))
 
-  count_packet : (bytes : List ℕ) → Bytes bytes → (p : Packet) → header_of bytes ≡ Values p → BlocksRead (kind_in ws) (every_in (kind_in ws) ws) (values_in p) (image_packet W bytes).reads
+  count_packet : (bytes : List ℕ) → Bytes bytes → (p : Packet) → header_of bytes ≡ Ok p → BlocksRead (kind_in ws) (every_in (kind_in ws) ws) (values_in p) (image_packet W bytes).reads
   count_packet bytes b p e = rw ((over_header W bytes).read p e) (count p (within_tops_lem bytes p b e))
 
-  count_tally : (bytes : List ℕ) → Bytes bytes → (p : Packet) → header_of bytes ≡ Values p → (t : Tallies) → (image_tally W bytes t).answer ≡ 0 → BlocksRead (kind_in ws) (every_in (kind_in ws) ws) (values_in p) (image_tally W bytes t).reads
+  count_tally : (bytes : List ℕ) → Bytes bytes → (p : Packet) → header_of bytes ≡ Ok p → (t : Tallies) → (image_tally W bytes t).answer ≡ 0 → BlocksRead (kind_in ws) (every_in (kind_in ws) ws) (values_in p) (image_tally W bytes t).reads
   unfolding image_tally
   count_tally bytes b p e t a = rw (found_done (image_packet W bytes) bytes t a) (count_packet bytes b p e)
 
@@ -196,7 +196,7 @@ module _ (ws vs : List ℕ) (g : Passes (kind_in ws) ws) (h : Passes (kind_in vs
 
   pub same_over_packet : (bytes : List ℕ) → image_packet (image_of ws) bytes ≡ image_packet (image_of vs) bytes
   same_over_packet bytes = by_header _ bytes
-      (λ a u n. (over_header (image_of ws) bytes).unread a u n ∙ sym ((over_header (image_of vs) bytes).unread a u n))
+      (λ r u. (over_header (image_of ws) bytes).unread r u ∙ sym ((over_header (image_of vs) bytes).unread r u))
       (λ p u. (over_header (image_of ws) bytes).read p u ∙ same_over p ∙ sym ((over_header (image_of vs) bytes).read p u))
 
 -- THE STARRED LIST: what the definitions say of its rows

@@ -3,13 +3,12 @@
 use mathlib.Core.Path.{◌≡◌, refl, sym, ap, ap₂, ◌∙◌}
 use mathlib.Core.Bool.{Bool, true, false, cond}
 use mathlib.Core.List.{List, [], ◌++◌, append_assoc}
-use Prim.Native.Nat.{ℕ, ◌+◌, ◌≤◌}
+use Prim.Native.Nat.{ℕ, ◌≤◌}
 use native.Mathlib.Omega.{arith}
 use lib.ListN.{length, get_or, take, drop, length-append, length-drop}
 use lib.Seq.{take_at, drop_at}
 use borrow.Author.Tests.{le-leb, eq-eqb, ne_eqb}
 use Rattle.model.specs.Lists.{same}
-use Rattle.model.specs.Rules.{cells}
 use Rattle.model.specs.Table.{Kind, Rule, Table, Shaped, row_words, within, with_rule, without, cells_of, insert_answer, delete_answer}
 use Rattle.model.proofs.Tests.{and_left, and_right, and_both}
 use Rattle.model.proofs.UpTo.{same_true, true_same}

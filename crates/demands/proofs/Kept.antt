@@ -27,6 +27,7 @@ use Rattle.demands.specs.Tally.{key_at, HoldsAt, NoPlace, WellKept, Dropped}
 use Rattle.demands.proofs.KindNamed.{shaped_in}
 use Rattle.demands.proofs.Held.{right, insert_leaves, delete_leaves}
 use Rattle.lookup.proofs.Steps.{wrong_11}
+use Rattle.tally.proofs.Steps.{numbered}
 use Rattle.demands.proofs.Packets.{refused_by, readable_is, by_header}
 use Rattle.demands.proofs.Decided.{lookup_is}
 use Rattle.demands.proofs.Tally.{by_look}
@@ -130,7 +131,7 @@ module _ (k : Kind) (s : Shaped k) where
 -- THE LIBRARY'S LOOKUPS
 packet_named : (ws : List ℕ) → Passes (kind_in ws) ws → (bytes : List ℕ) → (lookup_packet ws bytes).answer ≡ 0 → In (lookup_packet ws bytes).rule (map number_of (every_in (kind_in ws) ws))
 packet_named ws h bytes = by_header ((lookup_packet ws bytes).answer ≡ 0 → In (lookup_packet ws bytes).rule (map number_of (every_in (kind_in ws) ws))) bytes
-    (λ g u n e. absurd (n (sym (ap (λ (f : Found). f.answer) (refused_by ws bytes g u n)) ∙ e)))
+    (λ r u e. absurd (numbered r (sym (ap (λ (f : Found). f.answer) (refused_by ws bytes r u)) ∙ e)))
     (λ p u. rw (readable_is ws bytes p u) (named_in (kind_in ws) (shaped_in ws) ws h (values_in p)))
 
 pub never_13 : (ws : List ℕ) → Passes (kind_in ws) ws → (t : Tallies) → (kind_in ws).most < length t.key → WellKept (kind_in ws) ws t → (bytes : List ℕ) → tally_answer ws bytes t ≡ lookup_packet ws bytes

@@ -17,8 +17,8 @@ use Rattle.model.proofs.Grid.{row_ends}
 use Rattle.layout.specs.Store.{cells_in, room_for}
 use Rattle.lookup.specs.declared.Found.{Found}
 use Rattle.lookup.specs.declared.Walked.{Walked}
-use Rattle.lookup.specs.declared.Walked.TheVariants.{At, Lost}
-use Rattle.lookup.specs.Walk.{seek_of, on_from, through_of, walk_of, refused, part_in, begins, found_in, lookup_in}
+use Rattle.std.specs.Prelude.{Option, None}
+use Rattle.lookup.specs.Walk.{led_to, seek_of, on_from, through as walk_on, through_of, walk_of, refused, part_in, begins, found_in, lookup_in}
 use Rattle.lookup.proofs.Steps.{seek_lost, seek_here, seek_next, seek_spent, no_kind}
 use Rattle.lookup.proofs.Tree.{begins_row}
 use Rattle.demands.specs.Links.{walk_link, end_at, next_at, down_at, EndsBelow, LeadsDown, LeadsNowhere, outside, spent, NoRow, Astray, here, below, rowless, Undecided}
@@ -47,19 +47,19 @@ module _ (k : Kind) (ws : List ℕ) where
 
   -- ONE FIELD
   module _ (v : ℕ) where
-    goes_down : (n j r : ℕ) → 0 < n → j < C → v ≤ end_at k ws j → seek_of P C v n j r ≡ At (down_at k ws j) (r + 1)
-    goes_down n j r p h e = seek_here P C v n j r p h (rw (end_at_lem j h) e) ∙ ap (λ d. At d (r + 1)) (cell_at j 2 h (omega arith))
+    goes_down : (n j r : ℕ) → 0 < n → j < C → v ≤ end_at k ws j → seek_of P C v n j r ≡ led_to (down_at k ws j) (r + 1)
+    goes_down n j r p h e = seek_here P C v n j r p h (rw (end_at_lem j h) e) ∙ ap (λ d. led_to d (r + 1)) (cell_at j 2 h (omega arith))
 
     goes_next : (n j r : ℕ) → j < C → end_at k ws j < v → seek_of P C v (suc n) j r ≡ seek_of P C v n (next_at k ws j) (r + 1)
     goes_next n j r h e = seek_next P C v (suc n) n j r refl h (rw (end_at_lem j h) e) ∙ ap (λ d. seek_of P C v n d (r + 1)) (cell_at j 1 h (omega arith))
 
     -- what the walk of a field tells, where n cells may be read from cell j on and r were read before
-    data Sought (n j r : ℕ) : Walked → Type 0 where
-      none_left : (m : ℕ) → EndsBelow k ws v n j m → Sought n j r Lost
-      left_cells : (i m : ℕ) → i < n → EndsBelow k ws v i j m → C ≤ m → Sought n j r Lost
-      led_down : (i m x : ℕ) → i < n → EndsBelow k ws v i j m → m < C → v ≤ end_at k ws m → x ≡ r + i + 1 → Sought n j r (At (down_at k ws m) x)
+    data Sought (n j r : ℕ) : Option Walked → Type 0 where
+      none_left : (m : ℕ) → EndsBelow k ws v n j m → Sought n j r None
+      left_cells : (i m : ℕ) → i < n → EndsBelow k ws v i j m → C ≤ m → Sought n j r None
+      led_down : (i m x : ℕ) → i < n → EndsBelow k ws v i j m → m < C → v ≤ end_at k ws m → x ≡ r + i + 1 → Sought n j r (led_to (down_at k ws m) x)
 
-    one_more : {n j r : ℕ} {w : Walked} → j < C → end_at k ws j < v → Sought n (next_at k ws j) (r + 1) w → Sought (suc n) j r w
+    one_more : {n j r : ℕ} {w : Option Walked} → j < C → end_at k ws j < v → Sought n (next_at k ws j) (r + 1) w → Sought (suc n) j r w
     one_more h e (none_left m b) = none_left m (h, e, b)
     one_more h e (left_cells i m l b o) = left_cells (suc i) m (omega arith) (h, e, b) o
     one_more h e (led_down i m x l b a d q) = led_down (suc i) m x (omega arith) (h, e, b) a d (omega arith)
@@ -87,23 +87,23 @@ module _ (k : Kind) (ws : List ℕ) where
         let z : 0 + i ≡ i = omega arith in
         ap (λ n. seek_of P C v n j 0) y ∙ passes_by i (C - i) j m 0 b ∙ ap (seek_of P C v (C - i) m) z
 
-    nowhere_lost : (j : ℕ) → LeadsNowhere k ws v j → seek_of P C v C j 0 ≡ Lost
+    nowhere_lost : (j : ℕ) → LeadsNowhere k ws v j → seek_of P C v C j 0 ≡ None
     nowhere_lost j (outside i m l b o) = from_start i j m (omega arith) b ∙ seek_lost P C v (C - i) m i o
     nowhere_lost j (spent m b) = from_start C j m (omega arith) b ∙ seek_spent P C v (C - C) m C (omega arith)
 
-    down_at_lem : (j d : ℕ) (l : LeadsDown k ws v j d) → seek_of P C v C j 0 ≡ At d (l.passed + 1)
+    down_at_lem : (j d : ℕ) (l : LeadsDown k ws v j d) → seek_of P C v C j 0 ≡ led_to d (l.passed + 1)
     down_at_lem j d l =
         let i = l.passed in
         from_start i j l.cell (omega (arith, l.few)) l.before
         ∙ goes_down (C - i) l.cell i (omega (arith, l.few)) l.inside l.reached
-        ∙ ap (λ a. At a (i + 1)) (sym l.leads)
+        ∙ ap (λ a. led_to a (i + 1)) (sym l.leads)
 
   -- ALL FIELDS: the walk is lost, or comes to a row after so many reads; it is astray where it is lost, or where that is no row
-  data Through (vs : List ℕ) (j r : ℕ) : Walked → Type 0 where
-    lost : Astray k ws vs j → Through vs j r Lost
-    come : (p n : ℕ) → n ≤ r + length vs * C → (NoRow k ws p → Astray k ws vs j) → Through vs j r (At p n)
+  data Through (vs : List ℕ) (j r : ℕ) : Option Walked → Type 0 where
+    lost : Astray k ws vs j → Through vs j r None
+    come : (p n : ℕ) → n ≤ r + length vs * C → (NoRow k ws p → Astray k ws vs j) → Through vs j r (led_to p n)
 
-  through_here : (v : ℕ) (vs : List ℕ) (j r : ℕ) (w : Walked) → Sought v C j 0 w → ((d n : ℕ) → Through vs d (r + n) (through_of P C vs d (r + n))) → Through (v ∷ vs) j r (on_from (λ d n. through_of P C vs d (r + n)) w)
+  through_here : (v : ℕ) (vs : List ℕ) (j r : ℕ) (w : Option Walked) → Sought v C j 0 w → ((d n : ℕ) → Through vs d (r + n) (through_of P C vs d (r + n))) → Through (v ∷ vs) j r (on_from (λ d n. through_of P C vs d (r + n)) w)
   through_here v vs j r w (none_left m b) f = lost (here (spent m b))
   through_here v vs j r w (left_cells i m l b o) f = lost (here (outside i m l b o))
   through_here v vs j r w (led_down i m x l b a e q) f = further (through_of P C vs (down_at k ws m) (r + x)) (f (down_at k ws m) x)
@@ -111,12 +111,12 @@ module _ (k : Kind) (ws : List ℕ) where
       down : LeadsDown k ws v j (down_at k ws m)
       down = record { passed = i; cell = m; few = l; before = b; inside = a; reached = e; leads = refl }
 
-      further : (w : Walked) → Through vs (down_at k ws m) (r + x) w → Through (v ∷ vs) j r w
+      further : (w : Option Walked) → Through vs (down_at k ws m) (r + x) w → Through (v ∷ vs) j r w
       further w (lost s) = lost (below down s)
       further w (come p n h s) = come p n (omega arith) (λ o. below down (s o))
 
   through : (vs : List ℕ) (j r : ℕ) → Through vs j r (through_of P C vs j r)
-  unfolding through_of
+  unfolding walk_on
   through [] j r = come j r (omega arith) rowless
   through (v ∷ vs) j r = through_here v vs j r (seek_of P C v C j 0) (sought v C j 0) (λ d n. through vs d (r + n))
 
@@ -136,11 +136,11 @@ module _ (k : Kind) (ws : List ℕ) where
     pub no_row : begins k (get_or ws 1 0) p ≡ false → NoRow k ws p
     no_row h i a b q = never (sym (begins_row k s (get_or ws 1 0) i b a) ∙ ap (begins k (get_or ws 1 0)) (sym q) ∙ h)
 
-    pub rowless_9 : NoRow k ws p → (r : ℕ) → found_in k ws (At p r) ≡ refused 9
+    pub rowless_9 : NoRow k ws p → (r : ℕ) → found_in k ws (led_to p r) ≡ refused 9
     rowless_9 o r = by_test (begins k (get_or ws 1 0) p) (λ t. absurd (row_there t o)) (λ t. rw t)
 
   astray_9 : Shaped k → (vs : List ℕ) (j r : ℕ) → Astray k ws vs j → found_in k ws (through_of P C vs j r) ≡ refused 9
-  unfolding through_of
+  unfolding walk_on
   astray_9 s (v ∷ vs) j r (here l) = rw (nowhere_lost v j l)
   astray_9 s (v ∷ vs) j r (below {d = d} l a) = rw (down_at_lem v j d l) (astray_9 s vs d (r + (l.passed + 1)) a)
   astray_9 s [] j r (rowless o) = rowless_9 s j o r
@@ -158,7 +158,7 @@ module _ (k : Kind) (s : Shaped k) (ws vs : List ℕ) where
   unfolding walk_of
   walk_astray a = astray_9 k ws s vs (get_or (part_in k ws) 1 0) 0 (rw (begins_at k ws) a)
 
-  come_to : (w : Walked) → Through k ws vs (walk_link k ws) 0 w → ((found_in k ws w ≡ refused 9) × Undecided k ws vs) ⊎ DoneWithin (found_in k ws w)
+  come_to : (w : Option Walked) → Through k ws vs (walk_link k ws) 0 w → ((found_in k ws w ≡ refused 9) × Undecided k ws vs) ⊎ DoneWithin (found_in k ws w)
   come_to w (lost a) = inl (refl, inr (inr a))
   come_to w (come p n h f) = by_test (begins k (get_or ws 1 0) p)
       (λ t. inr (rw t (refl, omega arith)))

@@ -9,7 +9,7 @@ use Rattle.model.specs.Lists.{In}
 use Rattle.model.specs.Table.{Rule, Table}
 use Rattle.model.specs.Ipv4.{kind_in}
 use Rattle.header.specs.declared.Packet.{Packet}
-use Rattle.header.specs.declared.Header.TheVariants.{Values}
+use Rattle.std.specs.Prelude.{Ok}
 use Rattle.header.specs.Header.{has_ports, unreadable, packet_of, header_of}
 use Rattle.header.specs.Facts.{Ported, WithinTops}
 use Rattle.header.proofs.Facts.{within_tops_lem, portless_when, portless_ports}
@@ -23,14 +23,14 @@ use Rattle.demands.proofs.Packets.{tops_right, readable_is}
 use Rattle.demands.proofs.Decided.{found_of, lookup_is}
 use Rattle.demands.proofs.Check.{check}
 
-without : (bytes : List ℕ) → Bytes bytes → (p : Packet) → header_of bytes ≡ Values p → (Ported bytes → ⊥) → (p.portless ≡ 1) × (p.destination_port ≡ 0) × (p.source_port ≡ 0)
+without : (bytes : List ℕ) → Bytes bytes → (p : Packet) → header_of bytes ≡ Ok p → (Ported bytes → ⊥) → (p.portless ≡ 1) × (p.destination_port ≡ 0) × (p.source_port ≡ 0)
 without bytes b p e n =
     let z : p.portless ≡ 0 → ⊥ = λ q. n ((portless_when bytes p e).0 q) in
     let one : p.portless ≡ 1 = omega (arith, (within_tops_lem bytes p b e).portless_top, z) in
     let q = portless_ports bytes p e one in
     (one, q.0, q.1)
 
-asked : (ws : List ℕ) → Passes (kind_in ws) ws → (r : Rule) → In r (rules_in (kind_in ws) ws) → (FullPorts (kind_in ws) r → ⊥) → (bytes : List ℕ) (p : Packet) → header_of bytes ≡ Values p → HoldsAll (kind_in ws) (values_in p) r → Ported bytes
+asked : (ws : List ℕ) → Passes (kind_in ws) ws → (r : Rule) → In r (rules_in (kind_in ws) ws) → (FullPorts (kind_in ws) r → ⊥) → (bytes : List ℕ) (p : Packet) → header_of bytes ≡ Ok p → HoldsAll (kind_in ws) (values_in p) r → Ported bytes
 asked ws h r m n bytes p e a =
     ⊎_elim
     (λ (o : PortsOnly (kind_in ws) r). (portless_when bytes p e).0 (omega (arith, o.1, (a 5 (omega arith)).1)))
@@ -39,7 +39,7 @@ asked ws h r m n bytes p e a =
 
 -- THE EXAMPLE
 module _ (ws : List ℕ) (h : Passes (kind_in ws) ws) (t : table_of (kind_in ws) ws ≡ example) where
-  found : (bytes : List ℕ) (p : Packet) → WithinTops p → header_of bytes ≡ Values p → lookup_packet ws bytes ≡ found_of (kind_in ws) example (values_in p)
+  found : (bytes : List ℕ) (p : Packet) → WithinTops p → header_of bytes ≡ Ok p → lookup_packet ws bytes ≡ found_of (kind_in ws) example (values_in p)
   found bytes p w e = readable_is ws bytes p e ∙ lookup_is (kind_in ws) (shaped_in ws) ws h (values_in p) (tops_right p w) ∙ ap (λ (x : Table). found_of (kind_in ws) x (values_in p)) t
 
   -- a packet from 192.168.1.9 to 10.0.0.5

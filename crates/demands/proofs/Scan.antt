@@ -19,7 +19,7 @@ use Rattle.model.proofs.Sets.{Distinct, winner_same}
 use Rattle.model.proofs.Limits.{in_rising, from_within, distinct}
 use Rattle.model.proofs.Decide.{default_holds}
 use Rattle.header.specs.declared.Packet.{Packet}
-use Rattle.header.specs.declared.Header.TheVariants.{Values}
+use Rattle.std.specs.Prelude.{Ok}
 use Rattle.header.specs.Header.{header_of}
 use Rattle.header.specs.Facts.{WithinTops}
 use Rattle.rows.specs.Rows.{low_in, high_in}
@@ -122,7 +122,7 @@ agree ws h records same p = by_test (packet_right (kind_in ws) (values_in p))
     carried (lookup_is (kind_in ws) (shaped_in ws) ws h (values_in p) e) (scan_right records (default_in (kind_in ws) ws) p e) (record { answer = refl; rule = ap number_of d; action = ap action_of d }))
     (λ e. carried (wrong_11 (kind_in ws) ws (values_in p) e) (scan_wrong records (default_in (kind_in ws) ws) p e) (record { answer = refl; rule = refl; action = refl }))
 
-packet_agrees : (ws : List ℕ) → Passes (kind_in ws) ws → (records : List Given) → Same (rules_of records) (rules_in (kind_in ws) ws) → (bytes : List ℕ) (p : Packet) → header_of bytes ≡ Values p
+packet_agrees : (ws : List ℕ) → Passes (kind_in ws) ws → (records : List Given) → Same (rules_of records) (rules_in (kind_in ws) ws) → (bytes : List ℕ) (p : Packet) → header_of bytes ≡ Ok p
     → Agree (lookup_packet ws bytes) (scan records (default_in (kind_in ws) ws) p)
 packet_agrees ws h records same bytes p e = rw (readable_is ws bytes p e) (agree ws h records same p)
 

@@ -16,8 +16,8 @@ use Rattle.model.proofs.Keep.{length_keep}
 use Rattle.model.proofs.UpTo.{length_up_to}
 use Rattle.lookup.specs.declared.Found.{Found}
 use Rattle.lookup.specs.declared.Walked.{Walked}
-use Rattle.lookup.specs.declared.Walked.TheVariants.{At, Lost}
-use Rattle.lookup.specs.Walk.{on_from, refused, begins, found_in}
+use Rattle.std.specs.Prelude.{Option, None}
+use Rattle.lookup.specs.Walk.{led_to, on_from, through as walk_on, refused, begins, found_in}
 use Rattle.image.specs.Walk.{rank, rank_in, link_in, seek_blocks, through_blocks, walk_blocks}
 use Rattle.image.specs.Image.{image_in}
 use Rattle.image.proofs.Steps.{seek_out, seek_spent, seek_all, seek_down, seek_next, few_words, no_kind, front_there_lem}
@@ -54,33 +54,33 @@ module _ (k : Kind) (ws : List ℕ) (enough : front k ≤ length ws) where
 
   -- ONE FIELD
   module _ (v : ℕ) where
-    goes_down : (n b r : ℕ) → Readable k ws v b → down_from ≤ link_for k ws v b → seek_blocks P v (suc n) b r ≡ At (link_for k ws v b - down_from) (r + 1)
+    goes_down : (n b r : ℕ) → Readable k ws v b → down_from ≤ link_for k ws v b → seek_blocks P v (suc n) b r ≡ led_to (link_for k ws v b - down_from) (r + 1)
     goes_down n b r h d =
         let q = link_is b (ends_below k ws v b) in
-        seek_down P v (suc n) n b r (ends_below k ws v b) refl (omega (arith, h.inside, long)) (rank_is v b) h.reached (rw q d) ∙ ap (λ l. At (l - down_from) (r + 1)) q
+        seek_down P v (suc n) n b r (ends_below k ws v b) refl (omega (arith, h.inside, long)) (rank_is v b) h.reached (rw q d) ∙ ap (λ l. led_to (l - down_from) (r + 1)) q
 
     goes_next : (n b r : ℕ) → Readable k ws v b → link_for k ws v b < down_from → seek_blocks P v (suc n) b r ≡ seek_blocks P v n (link_for k ws v b) (r + 1)
     goes_next n b r h d =
         let q = link_is b (ends_below k ws v b) in
         seek_next P v (suc n) n b r (ends_below k ws v b) refl (omega (arith, h.inside, long)) (rank_is v b) h.reached (rw q d) ∙ ap (λ l. seek_blocks P v n l (r + 1)) q
 
-    out_lost : (n b r : ℕ) → Outside k ws b → seek_blocks P v n b r ≡ Lost
+    out_lost : (n b r : ℕ) → Outside k ws b → seek_blocks P v n b r ≡ None
     out_lost n b r o = seek_out P v n b r (omega (arith, long))
 
-    below_lost : (n b r : ℕ) → ends_below k ws v b ≡ 8 → seek_blocks P v n b r ≡ Lost
+    below_lost : (n b r : ℕ) → ends_below k ws v b ≡ 8 → seek_blocks P v n b r ≡ None
     below_lost zero b r e = seek_spent P v 0 b r refl
     below_lost (suc n) b r e = by_test (leb (front k + 16 * b + 16) (length ws))
         (λ t. seek_all P v (suc n) n b r (ends_below k ws v b) refl (omega (arith, leb-true (front k + 16 * b + 16) (length ws) t, long)) (rank_is v b) (omega arith))
         (λ t. out_lost (suc n) b r (leb-false (front k + 16 * b + 16) (length ws) t))
 
     -- what the walk of a field tells, where n blocks may be read from block b on and r were read before
-    data Sought (n b r : ℕ) : Walked → Type 0 where
-      none_left : (m : ℕ) → LeadsOn k ws v n b m → Sought n b r Lost
-      left_words : (i m : ℕ) → i < n → LeadsOn k ws v i b m → Outside k ws m → Sought n b r Lost
-      all_passed : (i m : ℕ) → i < n → LeadsOn k ws v i b m → ends_below k ws v m ≡ 8 → Sought n b r Lost
-      led_down : (i m x : ℕ) → i < n → LeadsOn k ws v i b m → Readable k ws v m → down_from ≤ link_for k ws v m → x ≡ r + i + 1 → Sought n b r (At (link_for k ws v m - down_from) x)
+    data Sought (n b r : ℕ) : Option Walked → Type 0 where
+      none_left : (m : ℕ) → LeadsOn k ws v n b m → Sought n b r None
+      left_words : (i m : ℕ) → i < n → LeadsOn k ws v i b m → Outside k ws m → Sought n b r None
+      all_passed : (i m : ℕ) → i < n → LeadsOn k ws v i b m → ends_below k ws v m ≡ 8 → Sought n b r None
+      led_down : (i m x : ℕ) → i < n → LeadsOn k ws v i b m → Readable k ws v m → down_from ≤ link_for k ws v m → x ≡ r + i + 1 → Sought n b r (led_to (link_for k ws v m - down_from) x)
 
-    one_more : {n b r : ℕ} {w : Walked} → Readable k ws v b → link_for k ws v b < down_from → Sought n (link_for k ws v b) (r + 1) w → Sought (suc n) b r w
+    one_more : {n b r : ℕ} {w : Option Walked} → Readable k ws v b → link_for k ws v b < down_from → Sought n (link_for k ws v b) (r + 1) w → Sought (suc n) b r w
     one_more h e (none_left m o) = none_left m (h, e, o)
     one_more h e (left_words i m l o a) = left_words (suc i) m (omega arith) (h, e, o) a
     one_more h e (all_passed i m l o a) = all_passed (suc i) m (omega arith) (h, e, o) a
@@ -110,12 +110,12 @@ module _ (k : Kind) (ws : List ℕ) (enough : front k ≤ length ws) where
         let z : 0 + i ≡ i = omega arith in
         ap (λ n. seek_blocks P v n b 0) y ∙ passes_by i (8 - i) b m 0 o ∙ ap (seek_blocks P v (8 - i) m) z
 
-    nowhere_lost : (b : ℕ) → BlocksEnd k ws v b → seek_blocks P v 8 b 0 ≡ Lost
+    nowhere_lost : (b : ℕ) → BlocksEnd k ws v b → seek_blocks P v 8 b 0 ≡ None
     nowhere_lost b (outside i m l o a) = from_start i b m (omega arith) o ∙ out_lost (8 - i) m i a
     nowhere_lost b (all_below i m l o a) = from_start i b m (omega arith) o ∙ below_lost (8 - i) m i a
     nowhere_lost b (spent m o) = from_start 8 b m (omega arith) o ∙ seek_spent P v 0 m 8 refl
 
-    down_at_lem : (b d : ℕ) (l : BlocksLead k ws v b d) → seek_blocks P v 8 b 0 ≡ At d (l.passed + 1)
+    down_at_lem : (b d : ℕ) (l : BlocksLead k ws v b d) → seek_blocks P v 8 b 0 ≡ led_to d (l.passed + 1)
     down_at_lem b d l =
         let i = l.passed in
         let y : 8 - i ≡ suc (7 - i) = omega (arith, l.few) in
@@ -123,14 +123,14 @@ module _ (k : Kind) (ws : List ℕ) (enough : front k ≤ length ws) where
         from_start i b l.block (omega (arith, l.few)) l.before
         ∙ ap (λ n. seek_blocks P v n l.block i) y
         ∙ goes_down (7 - i) l.block i l.readable (omega (arith, l.leads))
-        ∙ ap (λ a. At a (i + 1)) z
+        ∙ ap (λ a. led_to a (i + 1)) z
 
   -- ALL FIELDS: the walk is lost, or comes to a row after so many blocks; it is astray where it is lost, or where that is no row
-  data Through (vs : List ℕ) (b r : ℕ) : Walked → Type 0 where
-    lost : BlocksAstray k ws vs b → Through vs b r Lost
-    come : (p n : ℕ) → n ≤ r + length vs * 8 → (NoRow k ws p → BlocksAstray k ws vs b) → Through vs b r (At p n)
+  data Through (vs : List ℕ) (b r : ℕ) : Option Walked → Type 0 where
+    lost : BlocksAstray k ws vs b → Through vs b r None
+    come : (p n : ℕ) → n ≤ r + length vs * 8 → (NoRow k ws p → BlocksAstray k ws vs b) → Through vs b r (led_to p n)
 
-  through_here : (v : ℕ) (vs : List ℕ) (b r : ℕ) (w : Walked) → Sought v 8 b 0 w → ((d n : ℕ) → Through vs d (r + n) (through_blocks P vs d (r + n))) → Through (v ∷ vs) b r (on_from (λ d n. through_blocks P vs d (r + n)) w)
+  through_here : (v : ℕ) (vs : List ℕ) (b r : ℕ) (w : Option Walked) → Sought v 8 b 0 w → ((d n : ℕ) → Through vs d (r + n) (through_blocks P vs d (r + n))) → Through (v ∷ vs) b r (on_from (λ d n. through_blocks P vs d (r + n)) w)
   through_here v vs b r w (none_left m o) f = lost (here (spent m o))
   through_here v vs b r w (left_words i m l o a) f = lost (here (outside i m l o a))
   through_here v vs b r w (all_passed i m l o a) f = lost (here (all_below i m l o a))
@@ -142,17 +142,17 @@ module _ (k : Kind) (ws : List ℕ) (enough : front k ≤ length ws) where
       down : BlocksLead k ws v b (link_for k ws v m - down_from)
       down = record { passed = i; block = m; few = l; before = o; readable = a; leads = omega arith }
 
-      deeper : (w : Walked) → Through vs (link_for k ws v m - down_from) (r + x) w → Through (v ∷ vs) b r w
+      deeper : (w : Option Walked) → Through vs (link_for k ws v m - down_from) (r + x) w → Through (v ∷ vs) b r w
       deeper w (lost s) = lost (further down s)
       deeper w (come p n h s) = come p n (omega arith) (λ o. further down (s o))
 
   through : (vs : List ℕ) (b r : ℕ) → Through vs b r (through_blocks P vs b r)
-  unfolding through_blocks
+  unfolding walk_on
   through [] b r = come b r (omega arith) rowless
   through (v ∷ vs) b r = through_here v vs b r (seek_blocks P v 8 b 0) (sought v 8 b 0) (λ d n. through vs d (r + n))
 
   astray_9 : Shaped k → (vs : List ℕ) (b r : ℕ) → BlocksAstray k ws vs b → found_in k ws (through_blocks P vs b r) ≡ refused 9
-  unfolding through_blocks
+  unfolding walk_on
   astray_9 s (v ∷ vs) b r (here l) = rw (nowhere_lost v b l)
   astray_9 s (v ∷ vs) b r (further {d = d} l a) = rw (down_at_lem v b d l) (astray_9 s vs d (r + (l.passed + 1)) a)
   astray_9 s [] b r (rowless o) = rowless_9 k ws s b o r
@@ -162,7 +162,7 @@ module _ (k : Kind) (s : Shaped k) (ws vs : List ℕ) where
   abbrev pub DoneIn : Found → Type 0
   DoneIn f = (f.answer ≡ 0) × (f.reads ≤ length vs * 8)
 
-  come_to : (l : front k ≤ length ws) (w : Walked) → Through k ws l vs 0 0 w → ((found_in k ws w ≡ refused 9) × ImageUndecided k ws vs) ⊎ DoneIn (found_in k ws w)
+  come_to : (l : front k ≤ length ws) (w : Option Walked) → Through k ws l vs 0 0 w → ((found_in k ws w ≡ refused 9) × ImageUndecided k ws vs) ⊎ DoneIn (found_in k ws w)
   come_to l w (lost a) = inl (refl, inr (inr a))
   come_to l w (come p n h f) = by_test (begins k (get_or ws 1 0) p)
       (λ t. inr (rw t (refl, omega arith)))

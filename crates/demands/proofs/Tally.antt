@@ -17,7 +17,7 @@ use Rattle.lookup.specs.Walk.{refused, lookup_packet}
 use Rattle.tally.specs.declared.Tallies.{Tallies}
 use Rattle.tally.specs.declared.Place.{Place}
 use Rattle.tally.specs.Tally.{unused, keyed, place_of, plus, added_in, begun_in, tallies_with, slot_answer, has_place, found_tally, found_tallies, tally_answer, tallies_left}
-use Rattle.tally.proofs.Places.{None, Tells, holds_it, takes_it, no_room, place_told}
+use Rattle.tally.proofs.Places.{NonePass, Tells, holds_it, takes_it, no_room, place_told}
 use Rattle.demands.specs.Demand1.{Refuses, refuses, goes_on, done, OnlyAnswer}
 use Rattle.demands.specs.Dead.{SameRule}
 use Rattle.demands.specs.Tally.{packets_at, bytes_at, HoldsAt, UnusedAt, FirstAt, Nowhere, NoPlace, Places, AddedTo}
@@ -26,10 +26,10 @@ use Rattle.demands.specs.Tally.{packets_at, bytes_at, HoldsAt, UnusedAt, FirstAt
 keyed_says : (n k : ℕ) → keyed n k ≡ true → (k ≤ 65535) × (k ≡ n)
 keyed_says n k e = (leb-true k 65535 (and_right (eqb k n) _ e), eqb-true k n (and_left (eqb k n) _ e))
 
-none_keyed : (n m : ℕ) (keys : List ℕ) → None (keyed n) keys m → (j : ℕ) → j < m → (get_or keys j 0 ≤ 65535) × (get_or keys j 0 ≡ n) → ⊥
+none_keyed : (n m : ℕ) (keys : List ℕ) → NonePass (keyed n) keys m → (j : ℕ) → j < m → (get_or keys j 0 ≤ 65535) × (get_or keys j 0 ≡ n) → ⊥
 none_keyed n m keys none j l h = never (sym (rw (eq-eqb (get_or keys j 0) n h.1, le-leb (get_or keys j 0) 65535 h.0)) ∙ none j l)
 
-none_unused : (m : ℕ) (keys : List ℕ) → None unused keys m → (j : ℕ) → j < m → 65535 < get_or keys j 0 → ⊥
+none_unused : (m : ℕ) (keys : List ℕ) → NonePass unused keys m → (j : ℕ) → j < m → 65535 < get_or keys j 0 → ⊥
 none_unused m keys none j l h = never (sym (lt-ltb 65535 (get_or keys j 0) h) ∙ none j l)
 
 -- WHAT COUNTING MAKES of what a lookup by a packet found

@@ -39,7 +39,7 @@ module _ (ws : List ℕ) (h : Passes (kind_in ws) ws) where
 
   no_packet : (bytes : List ℕ) → Bytes bytes → (lookup_packet ws bytes).reads ≤ (worst_says (kind_in ws) ws).reads
   no_packet bytes b = by_header _ bytes
-      (λ a u n. rw (refused_by ws bytes a u n) (omega arith))
+      (λ r u. rw (refused_by ws bytes r u) (omega arith))
       (λ p e. rw (readable_is ws bytes p e) (no_more (values_in p) (right_tops (kind_in ws) (values_in p) (tops_right p (within_tops_lem bytes p b e)))))
 
   told : Told ws

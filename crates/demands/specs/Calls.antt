@@ -5,11 +5,11 @@ use Rattle.std.specs.Prelude.{◌≡◌, ◌⊎◌, true, List, ℕ, ◌+◌, �
 use Rattle.model.specs.Table.{Kind, Rule, every_rule}
 use Rattle.model.specs.Ipv4.{kind_in}
 use Rattle.header.specs.declared.Packet.{Packet}
-use Rattle.header.specs.declared.Header.TheVariants.{Values}
-use Rattle.header.specs.Header.{values_of}
 use Rattle.layout.specs.Store.{size, table_of, passes}
 use Rattle.lookup.specs.declared.Found.{Found}
 use Rattle.lookup.specs.Walk.{lookup_values}
+-- THE LIBRARY'S PACKETS. The values of a packet's record, in the order of the fields: destination address, source address, protocol, destination port, source port, and the mark of a packet without ports
+pub use Rattle.header.specs.Header.{values_in}
 
 -- "a store that the store check passes"
 abbrev pub Passes : Kind → List ℕ → Type 0
@@ -67,10 +67,6 @@ NoRoom k c ws = (c < field_count k) ⊎ (65536 < c) ⊎ (length ws < size k c)
 -- "a value above its top"
 abbrev pub AboveTop : Kind → List ℕ → Type 0
 AboveTop k vs = (i : ℕ) × (i < field_count k) × (top_at k i < value_at vs i)
-
--- THE LIBRARY'S PACKETS. The values of a packet's record, in the order of the fields: destination address, source address, protocol, destination port, source port, and the mark of a packet without ports
-abbrev pub values_in : Packet → List ℕ
-values_in p = values_of (Values p)
 
 -- the bytes of a slice are bytes
 abbrev pub Bytes : List ℕ → Type 0

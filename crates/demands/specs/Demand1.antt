@@ -7,7 +7,7 @@ use Rattle.model.specs.Lists.{In}
 use Rattle.model.specs.Table.{Kind, Rule, with_rule, cells_of}
 use Rattle.model.specs.Ipv4.{large, kind_in}
 use Rattle.header.specs.declared.Packet.{Packet}
-use Rattle.header.specs.declared.Header.TheVariants.{Values}
+use Rattle.std.specs.Prelude.{Ok}
 use Rattle.header.specs.Header.{total_length, header_of}
 use Rattle.header.specs.Facts.{Faulty}
 use Rattle.ipv4.specs.declared.Rule.{Rule as Given}
@@ -92,7 +92,7 @@ pub record Demand1 : Type 0 where
   pub packet_answer : (ws bytes : List ℕ) → Bytes bytes
       → Refuses 7 (Faulty bytes)
       (Refuses 14 (length bytes < total_length bytes)
-      (λ answer. (p : Packet) × (header_of bytes ≡ Values p) × Refuses 9 (Undecided (kind_in ws) ws (values_in p)) done answer))
+      (λ answer. (p : Packet) × (header_of bytes ≡ Ok p) × Refuses 9 (Undecided (kind_in ws) ws (values_in p)) done answer))
       (lookup_packet ws bytes).answer
   pub packet_zeros : (ws bytes : List ℕ) → (lookup_packet ws bytes).answer ≢ 0 → OnlyAnswer (lookup_packet ws bytes)
   -- "after c cells of one field", over any words: no lookup reads more than c cells for each field in all

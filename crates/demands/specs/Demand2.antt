@@ -5,7 +5,7 @@ use Rattle.model.specs.Lists.{In}
 use Rattle.model.specs.Table.{Kind, Rule, default_rule}
 use Rattle.model.specs.Ipv4.{large, kind_in}
 use Rattle.header.specs.declared.Packet.{Packet}
-use Rattle.header.specs.declared.Header.TheVariants.{Values}
+use Rattle.std.specs.Prelude.{Ok}
 use Rattle.header.specs.Header.{header_of}
 use Rattle.header.specs.Facts.{WithinTops}
 use Rattle.ipv4.specs.declared.Rule.{Rule as Given}
@@ -61,9 +61,9 @@ pub record Demand2 : Type 0 where
   -- the lookup by values, none above its top
   pub by_values : (ws : List ℕ) → Passes (kind_in ws) ws → (p : Packet) → WithinTops p → Names (kind_in ws) ws (values_in p) (lookup ws p)
   -- the lookup by a packet whose header gives the values p: `header_of` of header/specs/Header.antt says where the RFCs put each. They are never above their tops.
-  pub by_packet : (ws : List ℕ) → Passes (kind_in ws) ws → (bytes : List ℕ) → Bytes bytes → (p : Packet) → header_of bytes ≡ Values p → WithinTops p × Names (kind_in ws) ws (values_in p) (lookup_packet ws bytes)
+  pub by_packet : (ws : List ℕ) → Passes (kind_in ws) ws → (bytes : List ℕ) → Bytes bytes → (p : Packet) → header_of bytes ≡ Ok p → WithinTops p × Names (kind_in ws) ws (values_in p) (lookup_packet ws bytes)
   -- the lookup with tallies, whatever the record holds: "Demand 2 excepts a lookup refused with 13"
-  pub by_tally : (ws : List ℕ) → Passes (kind_in ws) ws → (bytes : List ℕ) → Bytes bytes → (p : Packet) → header_of bytes ≡ Values p → (t : Tallies) → ((tally_answer ws bytes t).answer ≡ 13) ⊎ Names (kind_in ws) ws (values_in p) (tally_answer ws bytes t)
+  pub by_tally : (ws : List ℕ) → Passes (kind_in ws) ws → (bytes : List ℕ) → Bytes bytes → (p : Packet) → header_of bytes ≡ Ok p → (t : Tallies) → ((tally_answer ws bytes t).answer ≡ 13) ⊎ Names (kind_in ws) ws (values_in p) (tally_answer ws bytes t)
   -- "The default rule has number 65,535 and full ranges": it is always there
   pub default : (ws : List ℕ) → In (default_rule (kind_in ws) (default_in (kind_in ws) ws)) (every_in (kind_in ws) ws)
   -- "An accepted insert adds that rule, [..] and every other rule stays"

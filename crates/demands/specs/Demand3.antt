@@ -5,7 +5,7 @@ use Rattle.model.specs.Lists.{In, Same, Rising, sum, up_to}
 use Rattle.model.specs.Table.{Kind, Rule}
 use Rattle.model.specs.Ipv4.{ipv4, kind_in}
 use Rattle.header.specs.declared.Packet.{Packet}
-use Rattle.header.specs.declared.Header.TheVariants.{Values}
+use Rattle.std.specs.Prelude.{Ok}
 use Rattle.header.specs.Header.{header_of}
 use Rattle.header.specs.Facts.{WithinTops}
 use Rattle.series.specs.Edits.{Edit, inserts, deletes, list_words}
@@ -91,9 +91,9 @@ pub record Demand3 : Type 0 where
   pub passes : (g : History) → Passes (kind_in (words_left g)) (words_left g) × (kind_in (words_left g) ≡ ipv4 g.large) × (cells_in (words_left g) ≡ g.cells)
   -- "The count is, ..", over the store's rules, "the default's ends included"
   pub count : (ws : List ℕ) → Passes (kind_in ws) ws → (p : Packet) → WithinTops p → Reads (kind_in ws) (every_in (kind_in ws) ws) (values_in p) (lookup ws p).reads
-  pub count_packet : (ws : List ℕ) → Passes (kind_in ws) ws → (bytes : List ℕ) → Bytes bytes → (p : Packet) → header_of bytes ≡ Values p → Reads (kind_in ws) (every_in (kind_in ws) ws) (values_in p) (lookup_packet ws bytes).reads
+  pub count_packet : (ws : List ℕ) → Passes (kind_in ws) ws → (bytes : List ℕ) → Bytes bytes → (p : Packet) → header_of bytes ≡ Ok p → Reads (kind_in ws) (every_in (kind_in ws) ws) (values_in p) (lookup_packet ws bytes).reads
   -- with tallies, "its sum where neither is refused"
-  pub count_tally : (ws : List ℕ) → Passes (kind_in ws) ws → (bytes : List ℕ) → Bytes bytes → (p : Packet) → header_of bytes ≡ Values p → (t : Tallies) → (tally_answer ws bytes t).answer ≡ 0 → Reads (kind_in ws) (every_in (kind_in ws) ws) (values_in p) (tally_answer ws bytes t).reads
+  pub count_tally : (ws : List ℕ) → Passes (kind_in ws) ws → (bytes : List ℕ) → Bytes bytes → (p : Packet) → header_of bytes ≡ Ok p → (t : Tallies) → (tally_answer ws bytes t).answer ≡ 0 → Reads (kind_in ws) (every_in (kind_in ws) ws) (values_in p) (tally_answer ws bytes t).reads
   -- "With n rules besides the default it is at most 2 × n + 1 in each field", and so in all: a bound for the sheet
   pub most_each : (ws : List ℕ) (h : Passes (kind_in ws) ws) (p : Packet) (t : WithinTops p) → (i : ℕ) → i < field_count (kind_in ws) → 1 + length ((count ws h p t).ends i) ≤ 2 * length (rules_in (kind_in ws) ws) + 1
   pub most : (ws : List ℕ) → Passes (kind_in ws) ws → (p : Packet) → WithinTops p → (lookup ws p).reads ≤ field_count (kind_in ws) * (2 * length (rules_in (kind_in ws) ws) + 1)

@@ -7,7 +7,7 @@ use Rattle.model.specs.Table.{Kind, Rule, front}
 use Rattle.model.specs.Bench.{Row, rows}
 use Rattle.model.specs.Ipv4.{large, kind_in}
 use Rattle.header.specs.declared.Packet.{Packet}
-use Rattle.header.specs.declared.Header.TheVariants.{Values}
+use Rattle.std.specs.Prelude.{Ok}
 use Rattle.header.specs.Header.{total_length, header_of}
 use Rattle.header.specs.Facts.{WithinTops, Faulty}
 use Rattle.layout.specs.Store.{size, table_of, cells_gives}
@@ -116,9 +116,9 @@ pub record Gives (ws image : List ℕ) : Type 0 where
   pub same_tallies : (bytes : List ℕ) (t : Tallies) → image_tallies image bytes t ≡ tallies_left ws bytes t
   -- "It reports blocks read", over the store's rules, "the default rule included"
   pub count : (p : Packet) → WithinTops p → BlocksRead (kind_in ws) (every_in (kind_in ws) ws) (values_in p) (lookup_over image p).reads
-  pub count_packet : (bytes : List ℕ) → Bytes bytes → (p : Packet) → header_of bytes ≡ Values p → BlocksRead (kind_in ws) (every_in (kind_in ws) ws) (values_in p) (image_packet image bytes).reads
+  pub count_packet : (bytes : List ℕ) → Bytes bytes → (p : Packet) → header_of bytes ≡ Ok p → BlocksRead (kind_in ws) (every_in (kind_in ws) ws) (values_in p) (image_packet image bytes).reads
   -- with tallies, where it is not refused
-  pub count_tally : (bytes : List ℕ) → Bytes bytes → (p : Packet) → header_of bytes ≡ Values p → (t : Tallies) → (image_tally image bytes t).answer ≡ 0 → BlocksRead (kind_in ws) (every_in (kind_in ws) ws) (values_in p) (image_tally image bytes t).reads
+  pub count_tally : (bytes : List ℕ) → Bytes bytes → (p : Packet) → header_of bytes ≡ Ok p → (t : Tallies) → (image_tally image bytes t).answer ≡ 0 → BlocksRead (kind_in ws) (every_in (kind_in ws) ws) (values_in p) (image_tally image bytes t).reads
   -- "With n rules that is at most the number of fields times the least L for 2 × n + 1": so for every L that is enough, and for the least
   pub most : (p : Packet) (L : ℕ) → 1 ≤ L → 2 * length (rules_in (kind_in ws) ws) + 1 ≤ 8 ^ L → (lookup_over image p).reads ≤ field_count (kind_in ws) * L
   pub most_packet : (bytes : List ℕ) (L : ℕ) → 1 ≤ L → 2 * length (rules_in (kind_in ws) ws) + 1 ≤ 8 ^ L → (image_packet image bytes).reads ≤ field_count (kind_in ws) * L
@@ -177,7 +177,7 @@ pub record Frozen : Type 0 where
   pub packet_answer : (image bytes : List ℕ) → Bytes bytes
       → Refuses 7 (Faulty bytes)
       (Refuses 14 (length bytes < total_length bytes)
-      (λ answer. (p : Packet) × (header_of bytes ≡ Values p) × Refuses 9 (ImageUndecided (kind_in image) image (values_in p)) done answer))
+      (λ answer. (p : Packet) × (header_of bytes ≡ Ok p) × Refuses 9 (ImageUndecided (kind_in image) image (values_in p)) done answer))
       (image_packet image bytes).answer
   pub packet_zeros : (image bytes : List ℕ) → (image_packet image bytes).answer ≢ 0 → OnlyAnswer (image_packet image bytes)
   -- "a lookup over other words ends": after at most 8 blocks for each field in all

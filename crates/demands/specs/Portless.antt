@@ -5,7 +5,7 @@ use Rattle.model.specs.Lists.{In}
 use Rattle.model.specs.Table.{Rule, Table}
 use Rattle.model.specs.Ipv4.{kind_in}
 use Rattle.header.specs.declared.Packet.{Packet}
-use Rattle.header.specs.declared.Header.TheVariants.{Values}
+use Rattle.std.specs.Prelude.{Ok}
 use Rattle.header.specs.Header.{header_of}
 use Rattle.header.specs.Facts.{Ported}
 use Rattle.layout.specs.Store.{table_of}
@@ -39,11 +39,11 @@ later_fragment = bytes_of 185 17 (1 ∷ 2 ∷ 3 ∷ 4 ∷ 5 ∷ 6 ∷ 7 ∷ 8 �
 
 pub record Portless : Type 0 where
   -- "0 where the packet has ports": protocol 6 or 17 and fragment offset 0 (`Ported` of header/specs/Facts.antt)
-  pub with_ports : (bytes : List ℕ) (p : Packet) → header_of bytes ≡ Values p → (p.portless ≡ 0) ↔ Ported bytes
+  pub with_ports : (bytes : List ℕ) (p : Packet) → header_of bytes ≡ Ok p → (p.portless ≡ 0) ↔ Ported bytes
   -- "1 where it is a later fragment or another protocol"; both ports are 0 then
-  pub without : (bytes : List ℕ) → Bytes bytes → (p : Packet) → header_of bytes ≡ Values p → (Ported bytes → ⊥) → (p.portless ≡ 1) × (p.destination_port ≡ 0) × (p.source_port ≡ 0)
+  pub without : (bytes : List ℕ) → Bytes bytes → (p : Packet) → header_of bytes ≡ Ok p → (Ported bytes → ⊥) → (p.portless ≡ 1) × (p.destination_port ≡ 0) × (p.source_port ≡ 0)
   -- in a store that passes, a rule whose port ranges aren't both full holds no packet without ports
-  pub asked : (ws : List ℕ) → Passes (kind_in ws) ws → (r : Rule) → In r (rules_in (kind_in ws) ws) → (FullPorts (kind_in ws) r → ⊥) → (bytes : List ℕ) (p : Packet) → header_of bytes ≡ Values p → HoldsAll (kind_in ws) (values_in p) r → Ported bytes
+  pub asked : (ws : List ℕ) → Passes (kind_in ws) ws → (r : Rule) → In r (rules_in (kind_in ws) ws) → (FullPorts (kind_in ws) r → ⊥) → (bytes : List ℕ) (p : Packet) → header_of bytes ≡ Ok p → HoldsAll (kind_in ws) (values_in p) r → Ported bytes
   -- in every store that passes and holds the example's table, the rule for ports 0 to 1023 decides for the transfer's packet to port 69, and for neither the echo nor the later fragment; these get the rule that asks 0 to 1
   pub decided : (ws : List ℕ) → Passes (kind_in ws) ws → table_of (kind_in ws) ws ≡ example
       → ((lookup_packet ws transfer).rule ≡ 10) × ((lookup_packet ws echo).rule ≡ 20) × ((lookup_packet ws later_fragment).rule ≡ 20)

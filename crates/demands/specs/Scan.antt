@@ -5,7 +5,7 @@ use Rattle.model.specs.Lists.{In, Same}
 use Rattle.model.specs.Table.{Kind, Rule}
 use Rattle.model.specs.Ipv4.{large, kind_in}
 use Rattle.header.specs.declared.Packet.{Packet}
-use Rattle.header.specs.declared.Header.TheVariants.{Values}
+use Rattle.std.specs.Prelude.{Ok}
 use Rattle.header.specs.Header.{header_of}
 use Rattle.header.specs.Facts.{WithinTops}
 use Rattle.ipv4.specs.declared.Rule.{Rule as Given}
@@ -51,7 +51,7 @@ pub record Scan : Type 0 where
   -- the theorem, for every list of records that are the store's rules, in whatever order and however often, and for every packet's record, within the tops or not
   pub agrees : (ws : List ℕ) → Passes (kind_in ws) ws → (records : List Given) → Same (rules_of records) (rules_in (kind_in ws) ws) → (p : Packet) → Agree (lookup ws p) (scan records (default_in (kind_in ws) ws) p)
   -- the same beside the lookup by a packet whose header gives the values p
-  pub by_packet : (ws : List ℕ) → Passes (kind_in ws) ws → (records : List Given) → Same (rules_of records) (rules_in (kind_in ws) ws) → (bytes : List ℕ) (p : Packet) → header_of bytes ≡ Values p
+  pub by_packet : (ws : List ℕ) → Passes (kind_in ws) ws → (records : List Given) → Same (rules_of records) (rules_in (kind_in ws) ws) → (bytes : List ℕ) (p : Packet) → header_of bytes ≡ Ok p
       → Agree (lookup_packet ws bytes) (scan records (default_in (kind_in ws) ws) p)
   -- the store's own table is such a list
   pub own : (ws : List ℕ) → Same (rules_of (records_of (kind_in ws) ws)) (rules_in (kind_in ws) ws)

@@ -1,6 +1,6 @@
 -- The edits that stand in what is gathered of a list are the list's own, where it has at most 32; a longer list is refused by its length, which is what is counted. So a list does the same as it is lent and as it is gathered.
 -- Assumes nothing.
-use mathlib.Core.Path.{◌≡◌, refl, sym, ap, ◌∙◌}
+use mathlib.Core.Path.{◌≡◌, sym, ap, ◌∙◌}
 use mathlib.Core.Bool.{true}
 use mathlib.Core.List.{List, map}
 use Prim.Native.Nat.{ℕ, zero, suc, ◌+◌, ◌*◌, ◌≤◌, ◌<◌}
@@ -17,6 +17,7 @@ use Rattle.rows.specs.Rows.{low_in, high_in}
 use Rattle.table.specs.Rows.{row_word, rule_in}
 use Rattle.table.proofs.Laws.{row_number, row_action, row_low, row_high}
 use Rattle.series.specs.Edits.{Edit, listed, bad_length, list_says, list_words, edit_in, edits_from}
+use Rattle.series.proofs.Taken.{edits_length}
 use Rattle.gather.specs.declared.Edit.{Edit as Given}
 use Rattle.gather.specs.Gather.{rule_of, edit_of, edit_word, no_edit, laid, gathered, edits_in}
 
@@ -54,18 +55,13 @@ module _ (es : List Given) (few : length es ≤ 32) where
   unfolding gathered
   all_back = rw (le-ltb 32 (length es) few) (edits_back (length es) 0 (omega arith))
 
--- what is counted is the list's length
-length_from : (f s n : ℕ) (xs : List ℕ) (i : ℕ) → length (edits_from f s n xs i) ≡ n
-length_from f s zero xs i = refl
-length_from f s (suc n) xs i = ap suc (length_from f s n xs (i + s))
-
 -- so what is the same of all lists of more than 32 edits is the same of the two
 module _ {X : Type 0} (f : List Edit → X) (x : X) (long : (es : List Edit) → 32 < length es → f es ≡ x) where
   alike : (es : List Given) → f (edits_in (gathered es)) ≡ f (map edit_of es)
   unfolding gathered
   alike es = by_test (ltb 32 (length es))
       (λ t. let l = ltb-true 32 (length es) t in
-      long (edits_in (gathered es)) (omega (arith, length_from 6 16 (length es) (gathered es).words 0)) ∙ sym (long (map edit_of es) (omega (arith, length-map es edit_of))))
+      long (edits_in (gathered es)) (omega (arith, edits_length 6 16 (length es) (gathered es).words 0)) ∙ sym (long (map edit_of es) (omega (arith, length-map es edit_of))))
       (λ t. ap f (all_back es (ltb-false 32 (length es) t)))
 
 module _ (k : Kind) (ws : List ℕ) where

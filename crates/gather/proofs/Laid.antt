@@ -3,7 +3,7 @@
 use mathlib.Core.Path.{◌≡◌, refl, sym, ap, ◌∙◌}
 use mathlib.Core.Bool.{cond}
 use mathlib.Core.List.{List}
-use Prim.Native.Nat.{ℕ, zero, suc, ◌+◌, ◌-◌, ◌*◌, ◌<◌}
+use Prim.Native.Nat.{ℕ, zero, suc, ◌+◌, ◌-◌, ◌*◌, ◌≤◌, ◌<◌}
 use native.Mathlib.Omega.{arith}
 use lib.Dec.{ltb, eqb}
 use lib.ListN.{length, get_or, set, replicate, length-replicate, get_or-replicate, get_or-eq_default}
@@ -62,6 +62,6 @@ module _ (es : List Edit) where
   unfolding gathered
   all_laid = refl
 
--- of a list no more than its edits are taken, and no more than 32
-pub taken_few : (n i : ℕ) → i < taken n → (i < n) × (i < 32)
-taken_few n i h = by_test (ltb 32 n) (λ t. absurd (omega (arith, rw t at h))) (λ t. let a = ltb-false 32 n t in let b : i < n = rw t at h in (b, omega arith))
+-- of a list no more than its edits are taken
+pub taken_within : (n : ℕ) → taken n ≤ n
+taken_within n = by_test (ltb 32 n) (λ t. rw t (omega arith)) (λ t. rw t (omega arith))

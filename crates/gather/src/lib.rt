@@ -1,7 +1,7 @@
 // A list of edits as a C caller lends it, and the same list as numbers, for the calls on a store. A list that is longer than 32 is not gone through.
 #![tactic(auto)]
 
-ghost use Rattle.std.specs.Prelude.{◌≡◌, ◌<◌, replicate};
+ghost use Rattle.std.specs.Prelude.{◌≡◌, ◌<◌};
 ghost use Rattle.gather.specs.Gather.{taken as taken_of, stepped, gathered};
 
 use ipv4::Rule;
@@ -28,55 +28,36 @@ pub struct Gathered {
 fn taken(count: usize) -> usize
     ensures { result ≡ taken_of count }
 {
-    if 32 < count {
-        return 0;
-    }
-    count
+    if 32 < count { 0 } else { count }
 }
 
-// A list of so many edits, of which none is laid out yet.
-fn start(count: usize) -> Gathered
-    ensures { result ≡ record { count = count; words = replicate 512 0 } }
-{
-    Gathered {
-        count,
-        words: [0; 512],
-    }
-}
-
-// The list with one edit more laid out, at a place.
-fn step(list: Gathered, place: usize, edit: Edit) -> Gathered
+// Lays one edit more of a list out, at a place.
+fn step(list: &mut Gathered, place: usize, edit: &Edit)
     requires { place < 32 }
-    ensures { result ≡ stepped list place edit }
+    ensures { list.new ≡ stepped list.old place edit.now }
 {
-    let low = edit.low;
-    let high = edit.high;
     let row = ipv4::row_of(Rule {
         number: edit.number,
         action: edit.action,
-        low,
-        high,
+        low: edit.low,
+        high: edit.high,
     });
-    let mut words = list.words;
     let at = 16 * place;
-    words[at] = edit.remove;
-    moves::copy(&row, 0, &mut words, at + 1, at + 16);
-    Gathered {
-        count: list.count,
-        words,
-    }
+    list.words[at] = edit.remove;
+    moves::copy(&row, 0, &mut list.words, at + 1, at + 16);
 }
 
 // The edits of a list, in order, as numbers.
 pub fn gather(edits: &[Edit]) -> Gathered
     ensures { result ≡ gathered edits.now }
 {
-    let mut list = start(edits.len());
     let n = taken(edits.len());
-    let mut i: usize = 0;
-    while i < n {
-        list = step(list, i, edits[i]);
-        i += 1;
+    let mut list = Gathered {
+        count: edits.len(),
+        words: [0; 512],
+    };
+    for (i, edit) in edits[..n].iter().enumerate() {
+        step(&mut list, i, edit);
     }
     list
 }

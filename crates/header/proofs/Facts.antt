@@ -1,6 +1,6 @@
 -- What `header_of` comes to, in the plain facts of specs/Facts.antt: when a header is unreadable and when a packet is cut short, that the values of a readable one lie within their fields, and that bytes past the total length don't matter.
 -- Assumes nothing.
-use Rattle.std.specs.Prelude.{ℕ, ◌+◌, ◌≤◌, ◌<◌, ◌≡◌, refl, List, ◌++◌, ◌↔◌, ◌≢◌, ◌⊎◌, Bool, true, false, length, take}
+use Rattle.std.specs.Prelude.{ℕ, ◌+◌, ◌≤◌, ◌<◌, ◌≡◌, refl, List, ◌++◌, ◌↔◌, Bool, true, false, length, take, Result, Ok, Err}
 use Rattle.std.proofs.Common.{sym, ◌∙◌, inl, inr, ⊎_elim, true≢false, arith, ltb-true, ltb-false, length-append, length-take-le, get_or-take}
 use Rattle.std.proofs.Math.Path.{ap}
 use mathlib.Core.Logic.Iff
@@ -10,9 +10,10 @@ use Rattle.std.proofs.Math.ListN.{get_or-append}
 use Rattle.octets.specs.declared.Order.TheVariants.{Big}
 use Rattle.octets.specs.Octets.{byte, half}
 use Rattle.header.specs.declared.Packet.{Packet}
-use Rattle.header.specs.declared.Header.{Header}
-use Rattle.header.specs.declared.Header.TheVariants.{Values, Unreadable, Cut}
-use Rattle.header.specs.Header.{version, header_words, header_length, total_length, has_ports, unreadable, slice_below_total, packet_of, header_of, answer_of}
+use Rattle.refusal.specs.declared.Refusal.{Refusal}
+use Rattle.refusal.specs.declared.Refusal.TheVariants.{Unreadable, Cut}
+use Rattle.refusal.specs.Refusals.{answer_of}
+use Rattle.header.specs.Header.{version, header_words, header_length, total_length, has_ports, unreadable, slice_below_total, packet_of, header_of}
 use Rattle.header.specs.Says.{says_lt, says_eq, says_not, says_or, says_and}
 use Rattle.header.specs.Facts.{Ported, Faulty, Sound, Readable, CutShort, WithinTops}
 
@@ -54,50 +55,46 @@ not_faulty s r =
     (⊎_elim (λ h. omega arith)
     (⊎_elim (λ h. omega arith) (λ h. omega (arith, r.room h.0, h.1)))))
 
--- THE THREE CASES: `header_of` is `Unreadable` where one of the five holds, `Cut` where none does and the slice is shorter than the total length, and else the packet's values
-data Told (s : List ℕ) : Header → Type 0 where
-  told_unreadable : Faulty s → Told s Unreadable
-  told_cut : (Faulty s → ⊥) → length s < total_length s → Told s Cut
-  told_values : Readable s → Told s (Values (packet_of s))
+-- THE THREE CASES: `header_of` is the refusal `Unreadable` where one of the five holds, `Cut` where none does and the slice is shorter than the total length, and else the packet's values
+pub data Told (s : List ℕ) : Result Packet Refusal → Type 0 where
+  told_unreadable : Faulty s → Told s (Err Unreadable)
+  told_cut : (Faulty s → ⊥) → length s < total_length s → Told s (Err Cut)
+  told_values : Readable s → Told s (Ok (packet_of s))
 
-told : (s : List ℕ) → Told s (header_of s)
+pub told : (s : List ℕ) → Told s (header_of s)
 unfolding header_of
 told s = first (unreadable s) refl
   where
-    then : (Faulty s → ⊥) → (b : Bool) → slice_below_total s ≡ b → Told s (cond b Cut (Values (packet_of s)))
+    then : (Faulty s → ⊥) → (b : Bool) → slice_below_total s ≡ b → Told s (cond b (Err Cut) (Ok (packet_of s)))
     then clean true e = told_cut clean (ltb-true (length s) (total_length s) e)
     then clean false e = told_values (record { sound = sound_where s clean; whole = ltb-false (length s) (total_length s) e })
 
-    first : (b : Bool) → unreadable s ≡ b → Told s (cond b Unreadable (cond (slice_below_total s) Cut (Values (packet_of s))))
+    first : (b : Bool) → unreadable s ≡ b → Told s (cond b (Err Unreadable) (cond (slice_below_total s) (Err Cut) (Ok (packet_of s))))
     first true e = told_unreadable ((faulty s).0 e)
     first false e = then (λ r. true≢false (sym ((faulty s).1 r) ∙ e)) (slice_below_total s) refl
 
--- two cases with different numbers are not the same
-apart : {X : Type 0} {g h : Header} → g ≡ h → (answer_of g ≡ answer_of h → ⊥) → X
-apart e n = absurd (n (ap answer_of e))
-
 module _ (s : List ℕ) where
-  pub unreadable_when : (header_of s ≡ Unreadable) ↔ Faulty s
+  pub unreadable_when : (header_of s ≡ Err Unreadable) ↔ Faulty s
   unreadable_when = go (header_of s) (told s)
     where
-      go : (h : Header) → Told s h → (h ≡ Unreadable) ↔ Faulty s
+      go : (h : Result Packet Refusal) → Told s h → (h ≡ Err Unreadable) ↔ Faulty s
       go h (told_unreadable r) = (λ e. r, λ r. refl)
-      go h (told_cut clean l) = (λ e. apart e (λ q. omega arith), λ r. absurd (clean r))
-      go h (told_values r) = (λ e. apart e (λ q. omega arith), λ f. absurd (not_faulty s r.sound f))
+      go h (told_cut clean l) = (λ e. cc, λ r. absurd (clean r))
+      go h (told_values r) = (λ e. cc, λ f. absurd (not_faulty s r.sound f))
 
-  pub cut_when : (header_of s ≡ Cut) ↔ CutShort s
+  pub cut_when : (header_of s ≡ Err Cut) ↔ CutShort s
   cut_when = go (header_of s) (told s)
     where
-      go : (h : Header) → Told s h → (h ≡ Cut) ↔ CutShort s
-      go h (told_unreadable r) = (λ e. apart e (λ q. omega arith), λ c. absurd (c.0 r))
+      go : (h : Result Packet Refusal) → Told s h → (h ≡ Err Cut) ↔ CutShort s
+      go h (told_unreadable r) = (λ e. cc, λ c. absurd (c.0 r))
       go h (told_cut clean l) = (λ e. (clean, l), λ c. refl)
-      go h (told_values r) = (λ e. apart e (λ q. omega arith), λ c. absurd (omega (arith, r.whole, c.1)))
+      go h (told_values r) = (λ e. cc, λ c. absurd (omega (arith, r.whole, c.1)))
 
   -- the same by numbers: 7, and 14
   pub answer_7_when : (answer_of (header_of s) ≡ 7) ↔ Faulty s
   answer_7_when = go (header_of s) (told s)
     where
-      go : (h : Header) → Told s h → (answer_of h ≡ 7) ↔ Faulty s
+      go : (h : Result Packet Refusal) → Told s h → (answer_of h ≡ 7) ↔ Faulty s
       go h (told_unreadable r) = (λ e. r, λ r. refl)
       go h (told_cut clean l) = (λ e. absurd (omega arith), λ r. absurd (clean r))
       go h (told_values r) = (λ e. absurd (omega arith), λ f. absurd (not_faulty s r.sound f))
@@ -105,25 +102,25 @@ module _ (s : List ℕ) where
   pub answer_14_when : (answer_of (header_of s) ≡ 14) ↔ CutShort s
   answer_14_when = go (header_of s) (told s)
     where
-      go : (h : Header) → Told s h → (answer_of h ≡ 14) ↔ CutShort s
+      go : (h : Result Packet Refusal) → Told s h → (answer_of h ≡ 14) ↔ CutShort s
       go h (told_unreadable r) = (λ e. absurd (omega arith), λ c. absurd (c.0 r))
       go h (told_cut clean l) = (λ e. (clean, l), λ c. refl)
       go h (told_values r) = (λ e. absurd (omega arith), λ c. absurd (omega (arith, r.whole, c.1)))
 
-  pub values_when : Readable s → header_of s ≡ Values (packet_of s)
+  pub values_when : Readable s → header_of s ≡ Ok (packet_of s)
   values_when r = go (header_of s) (told s)
     where
-      go : (h : Header) → Told s h → h ≡ Values (packet_of s)
+      go : (h : Result Packet Refusal) → Told s h → h ≡ Ok (packet_of s)
       go h (told_unreadable f) = absurd (not_faulty s r.sound f)
       go h (told_cut clean l) = absurd (omega (arith, r.whole))
       go h (told_values q) = refl
 
-  pub values_are : (p : Packet) → header_of s ≡ Values p → Readable s × (p ≡ packet_of s)
+  pub values_are : (p : Packet) → header_of s ≡ Ok p → Readable s × (p ≡ packet_of s)
   values_are p = go (header_of s) (told s)
     where
-      go : (h : Header) → Told s h → h ≡ Values p → Readable s × (p ≡ packet_of s)
-      go h (told_unreadable f) e = apart e (λ q. omega arith)
-      go h (told_cut clean l) e = apart e (λ q. omega arith)
+      go : (h : Result Packet Refusal) → Told s h → h ≡ Ok p → Readable s × (p ≡ packet_of s)
+      go h (told_unreadable f) e = cc
+      go h (told_cut clean l) e = cc
       go h (told_values r) e = (r, cc)
 
 port_top : (b : Bool) (x : ℕ) → x ≤ 65_535 → cond b x 0 ≤ 65_535
@@ -147,11 +144,11 @@ packet_tops s h =
       portless_top = mark_top (has_ports s);
     }
 
-pub within_tops_lem : (s : List ℕ) (p : Packet) → ((i : ℕ) → byte s i < 256) → header_of s ≡ Values p → WithinTops p
+pub within_tops_lem : (s : List ℕ) (p : Packet) → ((i : ℕ) → byte s i < 256) → header_of s ≡ Ok p → WithinTops p
 within_tops_lem s p h e = rw (values_are s p e).1 (packet_tops s h)
 
 -- The mark of a packet without ports: 0 exactly where the packet carries ports, and 1 where it does not; both ports are 0 then
-module _ (s : List ℕ) (p : Packet) (e : header_of s ≡ Values p) where
+module _ (s : List ℕ) (p : Packet) (e : header_of s ≡ Ok p) where
   marked : (b : Bool) (x : ℕ) → (◌≡◌ {A = ℕ} (cond b 0 1) 0 ↔ (b ≡ true)) × (◌≡◌ {A = ℕ} (cond b 0 1) 1 → ◌≡◌ {A = ℕ} (cond b x 0) 0)
   marked true x = ((λ q. refl, λ q. refl), λ q. absurd (omega (arith, q)))
   marked false x = ((λ q. absurd (omega (arith, q)), λ q. absurd (false≢true q)), λ q. refl)
@@ -226,9 +223,9 @@ module _ (s t : List ℕ) (r : Readable s) (long : total_length s ≤ length t) 
   pub same_values : header_of t ≡ header_of s
   same_values =
       let whole : total_length t ≤ length t = omega (arith, same_total s t r.sound enough first) in
-      values_when t (record { sound = same_sound s t r.sound enough first; whole = whole }) ∙ ap Values same_packet ∙ sym (values_when s r)
+      values_when t (record { sound = same_sound s t r.sound enough first; whole = whole }) ∙ ap Ok same_packet ∙ sym (values_when s r)
 
-pub past_total : (s t : List ℕ) (p : Packet) → header_of s ≡ Values p → header_of (take (total_length s) s ++ t) ≡ Values p
+pub past_total : (s t : List ℕ) (p : Packet) → header_of s ≡ Ok p → header_of (take (total_length s) s ++ t) ≡ Ok p
 past_total s t p e =
     let r = (values_are s p e).0 in
     let front = take (total_length s) s in
@@ -238,7 +235,7 @@ past_total s t p e =
     ∙ e
 
 -- "Where only the slice being shorter than the total length stands in the way": with as many bytes more as are missing, whatever they are, the packet can be read
-pub completed : (s t : List ℕ) → header_of s ≡ Cut → total_length s ≤ length (s ++ t) → header_of (s ++ t) ≡ Values (packet_of (s ++ t))
+pub completed : (s t : List ℕ) → header_of s ≡ Err Cut → total_length s ≤ length (s ++ t) → header_of (s ++ t) ≡ Ok (packet_of (s ++ t))
 completed s t e n =
     let r = sound_where s ((cut_when s).0 e).0 in
     let l : 20 ≤ length (s ++ t) = omega (arith, length-append s t, r.long) in

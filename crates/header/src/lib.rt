@@ -8,10 +8,11 @@ ghost use Rattle.header.specs.Header.{
   total_length,
   has_ports,
   header_of,
-  answer_of,
+  values_in,
 };
 
 use octets::Order;
+use refusal::Refusal;
 
 // A packet's values, in the order of the fields.
 #[derive(Clone, Copy)]
@@ -24,41 +25,49 @@ pub struct Packet {
     pub portless: u32,
 }
 
-// What a slice of bytes is: a packet with these values, nothing that can be read, or the beginning of a packet whose header is sound.
-#[derive(Clone, Copy)]
-pub enum Header {
-    Values(Packet),
-    Unreadable,
-    Cut,
+impl Packet {
+    // Its values, one for each field.
+    pub fn values(self) -> [u32; 6]
+        ensures { result ≡ values_in self }
+    {
+        [
+            self.destination,
+            self.source,
+            self.protocol,
+            self.destination_port,
+            self.source_port,
+            self.portless,
+        ]
+    }
 }
 
-// The values of the packet that s begins with. Each byte is read where the tests before it have shown that it is there. The test for a packet cut short comes last: it is the answer only where nothing else stands in the way.
-pub fn read_header(s: &[u8]) -> Header
+// The values of the packet that s begins with; or the refusal of a slice that can't be read, or of one that is only the beginning of a packet whose header is sound. Each byte is read where the tests before it have shown that it is there. The test for a packet cut short comes last: it is the answer only where nothing else stands in the way.
+pub fn read_header(s: &[u8]) -> Result<Packet, Refusal>
     ensures { result ≡ header_of s.now }
 {
     if s.len() < 20 {
-        return Header::Unreadable;
+        return Err(Refusal::Unreadable);
     }
     if s[0] / 16 != 4 {
-        return Header::Unreadable;
+        return Err(Refusal::Unreadable);
     }
     if s[0] % 16 < 5 {
-        return Header::Unreadable;
+        return Err(Refusal::Unreadable);
     }
     let behind = header_length(s);
     let total = total_length(s);
     let ported = has_ports(s);
     if total < behind + ports_length(ported) {
-        return Header::Unreadable;
+        return Err(Refusal::Unreadable);
     }
     if s.len() < total {
-        return Header::Cut;
+        return Err(Refusal::Cut);
     }
-    let destination = octets::big_word(s, 16);
-    let source = octets::big_word(s, 12);
-    let protocol = octets::wide(s[9]);
+    let destination = octets::word_at(Order::Big, s, 16);
+    let source = octets::word_at(Order::Big, s, 12);
+    let protocol = u32::from(s[9]);
     if ported {
-        return Header::Values(Packet {
+        return Ok(Packet {
             destination,
             source,
             protocol,
@@ -67,7 +76,7 @@ pub fn read_header(s: &[u8]) -> Header
             portless: 0,
         });
     }
-    Header::Values(Packet {
+    Ok(Packet {
         destination,
         source,
         protocol,
@@ -75,17 +84,6 @@ pub fn read_header(s: &[u8]) -> Header
         source_port: 0,
         portless: 1,
     })
-}
-
-// The number of each case: 0 where there are values, 7 and 14 where there are none.
-pub fn answer(h: Header) -> u32
-    ensures { result ≡ answer_of h }
-{
-    match h {
-        Header::Values(_) => 0,
-        Header::Unreadable => 7,
-        Header::Cut => 14,
-    }
 }
 
 // How many bytes have to stand behind the header: those of the two ports, where the packet carries them.
@@ -97,17 +95,12 @@ fn ports_length(ported: bool) -> usize
 
 // Whether the packet carries ports: it is TCP or UDP, and whole or the first of its fragments. The
 // fragment offset is the lower thirteen bits of bytes 6 and 7; those above are flags.
+#[tactic(auto, unfolding(crate::specs::Header::has_ports))]
 fn has_ports(s: &[u8]) -> bool
     requires { 20 ≤ length s.now }
     ensures { result ≡ has_ports s.now }
 {
-    if octets::half_at(Order::Big, s, 6) % 8192 != 0 {
-        return false;
-    }
-    if s[9] == 6 {
-        return true;
-    }
-    s[9] == 17
+    octets::half_at(Order::Big, s, 6) % 8192 == 0 && (s[9] == 6 || s[9] == 17)
 }
 
 // The header's length in bytes, which is also where that which it carries begins.
@@ -115,7 +108,7 @@ fn header_length(s: &[u8]) -> usize
     requires { 20 ≤ length s.now }
     ensures { (result ≡ header_length s.now) × (result < 64) }
 {
-    (octets::wide(s[0]) % 16 * 4) as usize
+    usize::from(s[0] % 16) * 4
 }
 
 // The packet's length in bytes, header included, as the header says it.

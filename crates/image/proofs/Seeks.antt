@@ -12,7 +12,8 @@ use borrow.Author.Tests.{le-leb, lt-ltb, le-ltb}
 use Rattle.blocks.specs.Blocks.{down_mark, pow8, parts, blocks_up, level, links_to, lay}
 use Rattle.blocks.proofs.Levels.{level_length, end_word, link_word, lay_past}
 use Rattle.lookup.specs.declared.Walked.{Walked}
-use Rattle.lookup.specs.declared.Walked.TheVariants.{At}
+use Rattle.lookup.specs.Walk.{led_to}
+use Rattle.std.specs.Prelude.{Option}
 use Rattle.image.specs.Walk.{rank, rank_in, link_in, seek_blocks}
 
 -- A RISING ROW OF ENDS, of which q are below the value
@@ -27,8 +28,8 @@ rank_is (suc n) f v zero h p k = rw (le-ltb (f 0) v (k 0 (omega arith) (omega ar
 rank_is (suc n) f v (suc q) h p k = rw (lt-ltb (f 0) v (p 0 (omega arith))) (omega (arith, rank_is n (λ i. f (suc i)) v q (omega arith) (λ i l. p (suc i) (omega arith)) (λ i l b. k (suc i) (omega arith) (omega arith))))
 
 -- where a link leads, with n more blocks to read
-abbrev pub follow : List ℕ → ℕ → ℕ → ℕ → ℕ → Walked
-follow w v n l r = cond (ltb l down_mark) (seek_blocks w v n l r) (At (l - down_mark) r)
+abbrev pub follow : List ℕ → ℕ → ℕ → ℕ → ℕ → Option Walked
+follow w v n l r = cond (ltb l down_mark) (seek_blocks w v n l r) (led_to (l - down_mark) r)
 
 -- ONE BLOCK of a level that stands from block b on
 module _ (w : List ℕ) (b n : ℕ) (f g : ℕ → ℕ) (s : List ℕ) (o : drop (16 * b) w ≡ level n f g s) where

@@ -2,31 +2,29 @@
 -- Assumes nothing.
 use mathlib.Core.Path.{◌≡◌, refl, sym, ap, ◌∙◌}
 use mathlib.Core.Bool.{Bool, true, false, cond}
-use mathlib.Core.Logic.{◌≢◌}
 use mathlib.Core.List.{List}
 use Prim.Native.Nat.{ℕ, zero, suc, ◌+◌, ◌-◌, ◌*◌, ◌/◌, ◌≤◌, ◌<◌}
 use native.Mathlib.Omega.{arith}
-use native.Mathlib.Numerals.{add-one}
 use mir.Val.{bool_byte}
 use lib.Bits.{bit_and, and_le_l, and_le_r}
 use lib.Dec.{ltb, leb, eqb}
-use lib.ListN.{length, get_or, take, drop, length-drop, drop_of_length-le}
-use lib.Seq.{drop-cons, take_all}
+use lib.ListN.{length, get_or, take, drop, length-drop}
+use lib.Seq.{take_all}
 use borrow.Author.Tests.{ltb-true, ltb-false, lt-ltb, le-ltb, le-leb, lt-leb, eq-eqb, ne_eqb}
 use Rattle.model.specs.Table.{Kind, front, packet_right}
 use Rattle.model.proofs.Tests.{by_test}
 use Rattle.header.specs.declared.Packet.{Packet}
-use Rattle.header.specs.declared.Header.{Header}
-use Rattle.header.specs.declared.Header.TheVariants.{Values, Unreadable, Cut}
-use Rattle.header.specs.Header.{header_of, answer_of}
+use Rattle.std.specs.Prelude.{Some, None, Result, Ok, Err}
+use Rattle.refusal.specs.declared.Refusal.{Refusal}
+use Rattle.header.specs.Header.{header_of}
 use Rattle.header.proofs.Facts.{values_are}
 use Rattle.lookup.specs.declared.Found.{Found}
-use Rattle.lookup.specs.declared.Walked.TheVariants.{At, Lost}
+use Rattle.lookup.specs.declared.Walked.{Walked}
 use Rattle.blocks.specs.Blocks.{down_mark}
-use Rattle.lookup.specs.Walk.{on_from, refused, found_in}
+use Rattle.lookup.specs.Walk.{led_to, refused, found_in}
 use Rattle.tally.specs.declared.Tallies.{Tallies}
-use Rattle.tally.proofs.Steps.{Does}
-use Rattle.image.specs.Walk.{is_below, rank, rank_in, link_in, seek_blocks, through_blocks, walk_blocks}
+use Rattle.tally.proofs.Steps.{numbered, Does}
+use Rattle.image.specs.Walk.{is_below, rank, rank_in, link_in, seek_blocks, walk_blocks}
 use Rattle.image.specs.Image.{image_in, image_lookup, image_header, image_packet, image_tally, image_tallies}
 
 pub bit : (b : Bool) → (bool_byte b ≡ cond b 1 0) × (bool_byte b ≤ 1)
@@ -59,21 +57,21 @@ not_eight low high l h n =
 
 -- one block of a field, where m more may be read
 module _ (w : List ℕ) (v : ℕ) where
-  pub seek_out : (m k r : ℕ) → length w / 16 ≤ k → seek_blocks w v m k r ≡ Lost
+  pub seek_out : (m k r : ℕ) → length w / 16 ≤ k → seek_blocks w v m k r ≡ None
   unfolding seek_blocks
   seek_out zero k r h = refl
   seek_out (suc m) k r h = let l : length w < 16 * k + 16 = omega arith in simp (lt-leb _ (length w) l)
 
-  pub seek_spent : (m k r : ℕ) → m ≡ 0 → seek_blocks w v m k r ≡ Lost
+  pub seek_spent : (m k r : ℕ) → m ≡ 0 → seek_blocks w v m k r ≡ None
   unfolding seek_blocks
   seek_spent m k r e = rw e
 
   module _ (m n k r j : ℕ) (q : m ≡ suc n) (h : k < length w / 16) (e : j ≡ rank_in w k v) where
-    pub seek_all : 8 ≤ j → seek_blocks w v m k r ≡ Lost
+    pub seek_all : 8 ≤ j → seek_blocks w v m k r ≡ None
     unfolding seek_blocks
     seek_all l = rw (q, le-leb (16 * k + 16) (length w) (omega arith), ← e, le-ltb j 8 l)
 
-    pub seek_down : j < 8 → down_mark ≤ link_in w k j → seek_blocks w v m k r ≡ At (link_in w k j - down_mark) (r + 1)
+    pub seek_down : j < 8 → down_mark ≤ link_in w k j → seek_blocks w v m k r ≡ led_to (link_in w k j - down_mark) (r + 1)
     unfolding seek_blocks
     seek_down l d = rw (q, le-leb (16 * k + 16) (length w) (omega arith), ← e, lt-ltb j 8 l, le-ltb _ down_mark d)
 
@@ -82,39 +80,19 @@ module _ (w : List ℕ) (v : ℕ) where
     seek_next l d = rw (q, le-leb (16 * k + 16) (length w) (omega arith), ← e, lt-ltb j 8 l, lt-ltb _ down_mark d)
 
   -- a field reads at most as many blocks as it may
-  few : (m k r d n : ℕ) → seek_blocks w v m k r ≡ At d n → n ≤ r + m
+  few : (m k r : ℕ) (w' : Walked) → seek_blocks w v m k r ≡ Some w' → w'.reads ≤ r + m
   unfolding seek_blocks
-  few zero k r d n e = let z : ◌≡◌ {A = ℕ} 0 1 = cc in absurd (omega arith)
-  few (suc m) k r d n e = go (link_in w k (rank_in w k v)) (λ l. few m l (r + 1) d n) (leb (16 * k + 16) (length w)) (ltb (rank_in w k v) 8) (ltb (link_in w k (rank_in w k v)) down_mark) e
+  few zero k r w' e = absurd (cc)
+  few (suc m) k r w' e = go (link_in w k (rank_in w k v)) (λ l. few m l (r + 1) w') (leb (16 * k + 16) (length w)) (ltb (rank_in w k v) 8) (ltb (link_in w k (rank_in w k v)) down_mark) e
     where
-      go : (l : ℕ) → ((l : ℕ) → seek_blocks w v m l (r + 1) ≡ At d n → n ≤ r + 1 + m) → (b b' b'' : Bool) → cond b (cond b' (cond b'' (seek_blocks w v m l (r + 1)) (At (l - down_mark) (r + 1))) Lost) Lost ≡ At d n → n ≤ r + suc m
+      go : (l : ℕ) → ((l : ℕ) → seek_blocks w v m l (r + 1) ≡ Some w' → w'.reads ≤ r + 1 + m) → (b b' b'' : Bool) → cond b (cond b' (cond b'' (seek_blocks w v m l (r + 1)) (led_to (l - down_mark) (r + 1))) None) None ≡ Some w' → w'.reads ≤ r + suc m
       go l ih true true true e = omega (arith, ih l e)
-      go l ih true true false e = let z : r + 1 ≡ n = cc in omega arith
-      go l ih true false b'' e = let z : ◌≡◌ {A = ℕ} 0 1 = cc in absurd (omega arith)
-      go l ih false b' b'' e = let z : ◌≡◌ {A = ℕ} 0 1 = cc in absurd (omega arith)
+      go l ih true true false e = let z : record { place = l - down_mark; reads = r + 1 } ≡ w' = cc in omega (arith, ap (λ (x : Walked). x.reads) z)
+      go l ih true false b'' e = absurd (cc)
+      go l ih false b' b'' e = absurd (cc)
 
-  pub seek_few : (m k d n : ℕ) → At d n ≡ seek_blocks w v m k 0 → n ≤ m
-  seek_few m k d n e = omega (arith, few m k 0 d n (sym e))
-
--- the fields from i on
-module _ (w vs : List ℕ) (i k r : ℕ) where
-  field : i < length vs → through_blocks w (drop i vs) k r ≡ on_from (λ d n. through_blocks w (drop (i + 1) vs) d (r + n)) (seek_blocks w (get_or vs i 0) 8 k 0)
-  unfolding through_blocks
-  field h = rw (add-one, drop-cons vs i 0 h)
-
-  pub field_at : (d n : ℕ) → i < length vs → At d n ≡ seek_blocks w (get_or vs i 0) 8 k 0 → through_blocks w (drop i vs) k r ≡ through_blocks w (drop (i + 1) vs) d (r + n)
-  field_at d n h e = field h ∙ rw (← e)
-
-  pub field_lost : i < length vs → Lost ≡ seek_blocks w (get_or vs i 0) 8 k 0 → through_blocks w (drop i vs) k r ≡ Lost
-  field_lost h e = field h ∙ rw (← e)
-
-  pub field_none : length vs ≤ i → through_blocks w (drop i vs) k r ≡ At k r
-  unfolding through_blocks
-  field_none h = rw (drop_of_length-le vs {i = i} h)
-
-pub walk_starts : (w vs : List ℕ) → walk_blocks w vs ≡ through_blocks w (drop 0 vs) 0 0
-unfolding walk_blocks
-walk_starts w vs = refl
+  pub seek_few : (m k : ℕ) (w' : Walked) → Some w' ≡ seek_blocks w v m k 0 → w'.reads ≤ m
+  seek_few m k w' e = omega (arith, few m k 0 w' (sym e))
 
 -- over an image of a kind: too few words, another kind, and what the walk says
 module _ (k : Kind) (w vs : List ℕ) where
@@ -143,25 +121,20 @@ module _ (k : Kind) (w vs : List ℕ) where
   unfolding image_lookup
   right_in e = rw e
 
--- a packet, by what its header is
+-- a packet, by what its header gives
 module _ (w packet : List ℕ) where
-  pub no_values : (h : Header) → h ≡ header_of packet → answer_of h ≢ 0 → refused (answer_of h) ≡ image_packet w packet
+  pub by_header : (h : Result Packet Refusal) → h ≡ header_of packet → image_header w h ≡ image_packet w packet
   unfolding image_packet
-  no_values h e n = sym (simp (ne_eqb (answer_of h) 0 n)) ∙ ap (image_header w) e
-
-  pub by_values : (p : Packet) → Values p ≡ header_of packet → image_header w (Values p) ≡ image_packet w packet
-  unfolding image_packet
-  by_values p e = ap (image_header w) e
+  by_header h e = ap (image_header w) e
 
   -- an answer 0 is of a header that is long enough to have a total length
   pub long : {f : Found} → f ≡ image_packet w packet → f.answer ≡ 0 → 20 ≤ length packet
   unfolding image_packet
-  long is e = by_header (header_of packet) refl (ap (λ (g : Found). g.answer) (sym is) ∙ e)
+  long is e = go (header_of packet) refl (ap (λ (g : Found). g.answer) (sym is) ∙ e)
     where
-      by_header : (h : Header) → header_of packet ≡ h → (image_header w h).answer ≡ 0 → 20 ≤ length packet
-      by_header Unreadable q e = absurd (omega arith)
-      by_header Cut q e = absurd (omega arith)
-      by_header (Values p) q e = (values_are packet p q).0.sound.long
+      go : (h : Result Packet Refusal) → header_of packet ≡ h → (image_header w h).answer ≡ 0 → 20 ≤ length packet
+      go (Ok p) q e = (values_are packet p q).0.sound.long
+      go (Err r) q e = absurd (numbered r e)
 
   -- counting what was found
   pub image_does : (f : Found) → f ≡ image_packet w packet → (t : Tallies) (g : Found) (u : Tallies) → Does packet f t g u → (g ≡ image_tally w packet t) × (u ≡ image_tallies w packet t)

@@ -16,7 +16,7 @@ use Rattle.cells.specs.Planted.{Deep}
 use Rattle.blocks.specs.Blocks.{top_end, down_mark, pow8, depth, levels, own_blocks, under_blocks, blocks, entry, end_at_place, link_at_place, chain_blocks, below_blocks, tree_blocks, reads_below, block_reads}
 use Rattle.blocks.proofs.Levels.{depth_enough, depth_least, size_holds}
 use Rattle.blocks.proofs.Words.{Sorted, chain_past, belows_past}
-use Rattle.lookup.specs.declared.Walked.TheVariants.{At}
+use Rattle.lookup.specs.Walk.{led_to, through}
 use Rattle.image.specs.Walk.{seek_blocks, through_blocks, walk_blocks}
 use Rattle.image.proofs.Seeks.{Splits, seek_lay}
 
@@ -67,20 +67,20 @@ Words (v ∷ vs) = (v ≤ top_end) × Words vs
 -- THE WALK of words in which a tree stands
 module _ (w : List ℕ) where
   abbrev Walks : Tree ℕ → ℕ → List ℕ → Type 0
-  Walks u b vs = (r p : ℕ) → found u vs ≡ some p → through_blocks w vs (entry u b) r ≡ At p (r + block_reads u vs)
+  Walks u b vs = (r p : ℕ) → found u vs ≡ some p → through_blocks w vs (entry u b) r ≡ led_to p (r + block_reads u vs)
 
   -- behind the link of the end at which the walk of a chain stops
   record Led (t : Tree ℕ) (b v : ℕ) (vs : List ℕ) (r p : ℕ) : Type 0 where
     place : ℕ
     link : link_at_place t b (passed t v) ≡ down_mark + place
-    on : through_blocks w vs place r ≡ At p (r + reads_below t (v ∷ vs))
+    on : through_blocks w vs place r ≡ led_to p (r + reads_below t (v ∷ vs))
 
   abbrev Leads : Tree ℕ → ℕ → ℕ → List ℕ → Type 0
   Leads t b v vs = (r p : ℕ) → found t (v ∷ vs) ≡ some p → Led t b v vs r p
 
   walks : (t : Tree ℕ) (a : ℕ) (s vs : List ℕ) → Deep t (length vs) → Sorted t → Words vs → a + own_blocks t ≤ 1048576 → drop (16 * a) w ≡ chain_blocks t a (a + own_blocks t) s
       → ((v : ℕ) (ws : List ℕ) → Deep t (suc (length ws)) → Words ws → Leads t (a + own_blocks t) v ws) → Walks t a vs
-  unfolding Deep through_blocks entry chain_blocks own_blocks pow8 width
+  unfolding Deep through entry chain_blocks own_blocks pow8 width
   walks (names x) a s [] d o n low st k r p f = let y : x ≡ p = cc in let z : r + (0 + 0) ≡ r = omega arith in rw (y, z)
   walks (names x) a s (v ∷ vs) d o n low st k r p f = absurd (omega arith)
   walks stop a s vs d o n low st k r p f = let z : ◌≡◌ {A = ℕ} 0 1 = cc in absurd (omega arith)
@@ -94,7 +94,7 @@ module _ (w : List ℕ) where
       let y : r + (0 + suc (depth m)) + reads_below (loc e u t) (v ∷ vs) ≡ r + (levels m + reads_below (loc e u t) (v ∷ vs)) = omega arith in
       let l = k v vs d n.1 (r + (0 + suc (depth m))) p f in
       let x : down_mark + l.place - down_mark ≡ l.place = omega arith in
-      let seek : seek_blocks w v 8 a 0 ≡ At l.place (0 + suc (depth m)) =
+      let seek : seek_blocks w v 8 a 0 ≡ led_to l.place (0 + suc (depth m)) =
       rw z at (seek_lay w v (depth m) a m (end_at_place (loc e u t)) g s q (7 - depth m) 0 (omega arith) st (depth_enough m) (within (loc e u t) v vs p (length vs) d f) (splits (loc e u t) v o n.0))
       ∙ simp (l.link, le-ltb (down_mark + l.place) down_mark (omega arith), x) in
       rw (seek, ← y) l.on
@@ -116,7 +116,7 @@ module _ (w : List ℕ) where
       (walks u b here vs (rw y at d.1) o.1 n (omega arith) st (λ x ws d' n'. leads u (b + own_blocks u) rest x ws d' o.1 n' (omega arith) st') r p)
       (ltb e v) refl f
     where
-      go : (found t (v ∷ vs) ≡ some p → Led t (b + blocks u) v vs r p) → (found u vs ≡ some p → through_blocks w vs (entry u b) r ≡ At p (r + block_reads u vs))
+      go : (found t (v ∷ vs) ≡ some p → Led t (b + blocks u) v vs r p) → (found u vs ≡ some p → through_blocks w vs (entry u b) r ≡ led_to p (r + block_reads u vs))
           → (x : Bool) → ltb e v ≡ x → cond x (found t (v ∷ vs)) (found u vs) ≡ some p → Led (loc e u t) b v vs r p
       go on down true q f = let l = on f in record { place = l.place; link = rw q l.link; on = rw q l.on }
       go on down false q f = record { place = entry u b; link = rw q; on = rw q (down f) }
@@ -129,7 +129,7 @@ begin (loc e u t) d l h = refl
 
 -- THE WALK over the blocks of a tree and any words behind them: the place that the tree's walk finds, and the blocks read
 pub walk_image : (t : Tree ℕ) (behind vs : List ℕ) (p : ℕ) → blocks t ≤ 1048576 → 0 < length vs → Deep t (length vs) → Sorted t → Words vs → found t vs ≡ some p
-    → walk_blocks (tree_blocks t 0 behind) vs ≡ At p (block_reads t vs)
+    → walk_blocks (tree_blocks t 0 behind) vs ≡ led_to p (block_reads t vs)
 unfolding walk_blocks
 walk_image t behind vs p h l d o n f =
     let w = tree_blocks t 0 behind in
@@ -137,4 +137,4 @@ walk_image t behind vs p h l d o n f =
     let y : 16 * (0 + own_blocks t) ≡ 16 * own_blocks t = omega arith in
     let z : 0 + block_reads t vs ≡ block_reads t vs = omega arith in
     let b : drop (16 * (0 + own_blocks t)) w ≡ s = rw y (chain_past t 0 (0 + own_blocks t) s) in
-    rw (begin t (length vs) l d) at (walks w t 0 s vs d o n (omega arith) refl (λ v ws d' n'. leads w t (0 + own_blocks t) behind v ws d' o n' (omega arith) b) 0 p f) ∙ ap (At p) z
+    rw (begin t (length vs) l d) at (walks w t 0 s vs d o n (omega arith) refl (λ v ws d' n'. leads w t (0 + own_blocks t) behind v ws d' o n' (omega arith) b) 0 p f) ∙ ap (λ r. led_to p r) z

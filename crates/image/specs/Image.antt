@@ -1,10 +1,12 @@
 -- What a lookup over an image answers, whatever its words hold. Word 1 is the number of rules and word 2 names the kind; the rules' rows stand where the kind has them, and the blocks behind its front.
 -- Assumes nothing: these are definitions.
-use Rattle.std.specs.Prelude.{Bool, cond, ◌&&◌, List, ℕ, leb, eqb, length, get_or, drop}
+use Rattle.std.specs.Prelude.{Bool, cond, ◌&&◌, List, ℕ, leb, eqb, length, get_or, drop, Result, Ok, Err}
 use Rattle.model.specs.Table.{Kind, front, packet_right}
 use Rattle.model.specs.Ipv4.{kind_in}
-use Rattle.header.specs.declared.Header.{Header}
-use Rattle.header.specs.Header.{header_of, answer_of, values_of}
+use Rattle.refusal.specs.declared.Refusal.{Refusal}
+use Rattle.refusal.specs.Refusals.{number_of}
+use Rattle.header.specs.declared.Packet.{Packet}
+use Rattle.header.specs.Header.{header_of, values_in}
 use Rattle.lookup.specs.declared.Found.{Found}
 use Rattle.lookup.specs.Walk.{refused, found_in}
 use Rattle.tally.specs.declared.Tallies.{Tallies}
@@ -23,9 +25,10 @@ image_in k image vs = cond (front_there k image) (found_in k image (walk_blocks 
 unfoldable pub image_lookup : Kind → List ℕ → List ℕ → Found
 image_lookup k image vs = cond (packet_right k vs) (image_in k image vs) (refused 11)
 
--- THE LOOKUP BY AN IPV4 PACKET, by the number and the values of its header: 7 or 14 where the header gives no values, "as before"; else the lookup by the header's values
-abbrev pub image_header : List ℕ → Header → Found
-image_header image h = cond (eqb (answer_of h) 0) (image_lookup (kind_in image) image (values_of h)) (refused (answer_of h))
+-- THE LOOKUP BY AN IPV4 PACKET, by what its header gives: 7 or 14 where the header gives no values, "as before"; else the lookup by the header's values
+abbrev pub image_header : List ℕ → Result Packet Refusal → Found
+image_header image (Ok p) = image_lookup (kind_in image) image (values_in p)
+image_header image (Err r) = refused (number_of r)
 
 unfoldable pub image_packet : List ℕ → List ℕ → Found
 image_packet image packet = image_header image (header_of packet)

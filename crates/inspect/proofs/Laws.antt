@@ -23,7 +23,7 @@ use Rattle.layout.specs.Named.{stored}
 use Rattle.layout.specs.Store.{head_text, rows_of, table_of}
 use Rattle.layout.specs.Inner.{table_stands}
 use Rattle.layout.proofs.Bridge.{stored_cells}
-use Rattle.layout.proofs.Parts.{first_fails, second_fails, third_says, head_length, split_equal, head_of, of_head, rows_slice}
+use Rattle.layout.proofs.Parts.{first_fails, second_fails, third_says, head_length, split_equal, head_of, of_head}
 use Rattle.layout.proofs.Sound.{count_is, zeros_are, are_zeros}
 use Rattle.blocks.specs.Blocks.{blocks_text}
 use Rattle.frozen.specs.Frozen.{image_size, image_text, image_passes}
@@ -61,7 +61,7 @@ module _ (k : Kind) (ws : List ℕ) (l : front k ≤ length ws) where
       sym (take-append-drop k.head ws)
       ∙ ap (λ x. take k.head ws ++ x) (sym (take-append-drop (row_words k) (drop k.head ws)) ∙ ap (λ x. rows_of k ws ++ x) (drop-drop (row_words k) k.head ws ∙ two))
 
-  rows_here : length (rows_of k ws) ≡ row_words k
+  pub rows_here : length (rows_of k ws) ≡ row_words k
   rows_here = simp (length-take, length-drop) (omega arith)
 
 rows_small : (k : Kind) → Shaped k → row_words k ≤ 15903
@@ -181,31 +181,26 @@ module _ (k : Kind) (s : Shaped k) (ws : List ℕ) where
           (λ z. q ∙ (sound_image z).body)
 
 -- THE BODY, as the code takes it apart: E is its end of the rows
-module _ (k : Kind) (ws : List ℕ) (n E : ℕ) (g : E ≡ k.head + row_words k) where
-  abbrev pub rows_to : List ℕ
-  rows_to = take (E - k.head) (drop k.head ws)
-
+module _ (k : Kind) (ws : List ℕ) (n : ℕ) (rows : List ℕ) (q : rows ≡ rows_of k ws) where
   abbrev pub tree_to : Tree ℕ
-  tree_to = tree_at rows_to 0 (length k.tops) (places k.width n)
+  tree_to = tree_at rows 0 (length k.tops) (places k.width n)
 
-  abbrev pub rest_to : List ℕ
-  rest_to = take (length ws - (E + 2)) (drop (E + 2) ws)
-
-  rows_are : rows_to ≡ rows_of k ws
-  rows_are = rows_slice k ws E g
-
-  rest_is_read : rest_to ≡ drop (front k) ws
-  rest_is_read = take_all (length ws - (E + 2)) (drop (E + 2) ws) (omega (arith, length-drop (E + 2) ws)) ∙ ap (λ i. drop (i + 2) ws) g
-
-  pub wrong_table : (b : Bool) → b ≡ table_stands k n rows_to → not b ≡ true → false ≡ image_body k n ws
+  pub wrong_table : (b : Bool) → b ≡ table_stands k n rows → not b ≡ true → false ≡ image_body k n ws
   unfolding image_body
-  wrong_table b e t = first_fails _ (e ∙ ap (table_stands k n) rows_are) t
+  wrong_table b e t = first_fails _ (e ∙ ap (table_stands k n) q) t
 
-  pub wrong_blocks : (b d : Bool) → b ≡ table_stands k n rows_to → not b ≡ false → d ≡ same rest_to (blocks_text tree_to) → not d ≡ true → false ≡ image_body k n ws
-  unfolding image_body
-  wrong_blocks b d e t f u = second_fails _ (e ∙ ap (table_stands k n) rows_are) t (f ∙ ap₂ (λ x r. same x (blocks_text (tree_at r 0 (length k.tops) (places k.width n)))) rest_is_read rows_are) u
+  module _ (E : ℕ) (g : E ≡ k.head + row_words k) where
+    abbrev pub rest_to : List ℕ
+    rest_to = take (length ws - (E + 2)) (drop (E + 2) ws)
 
-  pub right_body : (b d r : Bool) → b ≡ table_stands k n rows_to → not b ≡ false → d ≡ same rest_to (blocks_text tree_to) → not d ≡ false → r ≡ leb (cells tree_to) 65536 → r ≡ image_body k n ws
-  unfolding image_body
-  right_body b d r e t f u h =
-      third_says (e ∙ ap (table_stands k n) rows_are) t (f ∙ ap₂ (λ x r. same x (blocks_text (tree_at r 0 (length k.tops) (places k.width n)))) rest_is_read rows_are) u (h ∙ ap (λ r. leb (cells (tree_at r 0 (length k.tops) (places k.width n))) 65536) rows_are)
+    rest_is_read : rest_to ≡ drop (front k) ws
+    rest_is_read = take_all (length ws - (E + 2)) (drop (E + 2) ws) (omega (arith, length-drop (E + 2) ws)) ∙ ap (λ i. drop (i + 2) ws) g
+
+    pub wrong_blocks : (b d : Bool) → b ≡ table_stands k n rows → not b ≡ false → d ≡ same rest_to (blocks_text tree_to) → not d ≡ true → false ≡ image_body k n ws
+    unfolding image_body
+    wrong_blocks b d e t f u = second_fails _ (e ∙ ap (table_stands k n) q) t (f ∙ ap₂ (λ x r. same x (blocks_text (tree_at r 0 (length k.tops) (places k.width n)))) rest_is_read q) u
+
+    pub right_body : (b d r : Bool) → b ≡ table_stands k n rows → not b ≡ false → d ≡ same rest_to (blocks_text tree_to) → not d ≡ false → r ≡ leb (cells tree_to) 65536 → r ≡ image_body k n ws
+    unfolding image_body
+    right_body b d r e t f u h =
+        third_says (e ∙ ap (table_stands k n) q) t (f ∙ ap₂ (λ x r. same x (blocks_text (tree_at r 0 (length k.tops) (places k.width n)))) rest_is_read q) u (h ∙ ap (λ r. leb (cells (tree_at r 0 (length k.tops) (places k.width n))) 65536) q)

@@ -9,7 +9,7 @@ use lib.ListN.{length}
 use Rattle.model.specs.Table.{Kind, Shaped}
 use Rattle.model.specs.Ipv4.{ipv4, is_large, kind_in, ipv4_shaped}
 use Rattle.rows.specs.Rows.{Scratch}
-use Rattle.table.specs.declared.Shape.{Shape}
+use Rattle.table.specs.declared.shape.Shape.{Shape}
 use Rattle.table.specs.Rows.{kind_of}
 
 -- scratch for large stores, and for small ones
@@ -20,21 +20,23 @@ room : (b : Bool) (sets ends : List ℕ) → length sets ≡ scratch_for b → l
 room true sets ends e f = record { places = omega arith; room = omega arith }
 room false sets ends e f = record { places = omega arith; room = omega arith }
 
-module _ (b : Bool) (s : Shape) (e : kind_of (ipv4 b).tops s ≡ ipv4 b) where
-  pub shaped : Shaped (kind_of (ipv4 b).tops s)
+module _ (b : Bool) (s : Shape) (e : kind_of s ≡ ipv4 b) where
+  pub shaped : Shaped (kind_of s)
   shaped = rw e (ipv4_shaped b)
 
-  pub scratch : (sets ends : List ℕ) → length sets ≡ scratch_for b → length ends ≡ scratch_for b → Scratch (suc s.most) (length (ipv4 b).tops) sets ends
-  scratch sets ends f g = let z : s.most ≡ (ipv4 b).most = ap (λ k. k.most) e in rw z (room b sets ends f g)
+  -- it has six fields
+  pub fields : length s.tops.now ≡ 6
+  fields = ap (λ k. length k.tops) e
+
+  pub scratch : (sets ends : List ℕ) → length sets ≡ scratch_for b → length ends ≡ scratch_for b → Scratch (suc s.most) (length s.tops.now) sets ends
+  scratch sets ends f g =
+      let z : s.most ≡ (ipv4 b).most = ap (λ k. k.most) e in
+      rw (z, fields) (room b sets ends f g)
 
   -- it is the kind that the words name
-  pub named : (ws : List ℕ) → b ≡ is_large ws → kind_of (ipv4 b).tops s ≡ kind_in ws
+  pub named : (ws : List ℕ) → b ≡ is_large ws → kind_of s ≡ kind_in ws
   named ws h = e ∙ ap ipv4 h
 
   -- so what holds of the one holds of the other
-  pub chosen : (P : Kind → Type 0) (ws : List ℕ) → b ≡ is_large ws → P (kind_of (ipv4 b).tops s) → P (kind_in ws)
+  pub chosen : (P : Kind → Type 0) (ws : List ℕ) → b ≡ is_large ws → P (kind_of s) → P (kind_in ws)
   chosen P ws h = subst P (named ws h)
-
--- what a call over any kind asks for: the shape of a kind, and its scratch
-pub lent : (b : Bool) (s : Shape) → kind_of (ipv4 b).tops s ≡ ipv4 b → (sets ends : List ℕ) → length sets ≡ scratch_for b → length ends ≡ scratch_for b → Shaped (kind_of (ipv4 b).tops s) × Scratch (suc s.most) (length (ipv4 b).tops) sets ends
-lent b s e sets ends f g = (shaped b s e, scratch b s e sets ends f g)

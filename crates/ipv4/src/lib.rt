@@ -1,16 +1,20 @@
 // The two kinds of store of the IPv4 gateway, and a rule as its caller has it: six low and six high ends by field. Here alone the code has the numbers of the layout and the tops; the six fields stand by name also where a packet's values are taken one by one.
 #![tactic(auto)]
 
-ghost use Rattle.std.specs.Prelude.{◌≡◌, [], ◌∷◌, length};
+ghost use Rattle.std.specs.Prelude.{◌≡◌, suc, length};
 ghost use Rattle.model.specs.Table.{packet_right};
-ghost use Rattle.model.specs.Ipv4.{ipv4, large, is_large};
+ghost use Rattle.model.specs.Ipv4.{ipv4, large, is_large, kind_in};
+ghost use Rattle.header.specs.Header.{values_in};
+ghost use Rattle.rows.specs.Rows.{Scratch};
 ghost use Rattle.table.specs.Rows.{kind_of, rule_in};
 ghost use Rattle.ipv4.specs.Rule.{given};
 
+use header::Packet;
+use rows::Rows;
 use table::Shape;
 
 // The top of each field.
-pub const TOPS: [u32; 6] = [4294967295, 4294967295, 255, 65535, 65535, 1];
+pub static TOPS: [u32; 6] = [4294967295, 4294967295, 255, 65535, 65535, 1];
 
 // Scratch for the sets of the rules of a small store, and for their ends: for each field, and once more, a number for each of 65 rows.
 pub const SMALL: usize = 455;
@@ -34,11 +38,12 @@ pub fn is_large(words: &[u32]) -> bool
 }
 
 // The shape of large stores, or of small ones.
-pub fn shape(large: bool) -> Shape
-    ensures { kind_of (ipv4 large).tops result ≡ ipv4 large }
+pub fn shape(large: bool) -> Shape<'static>
+    ensures { kind_of result ≡ ipv4 large }
 {
     if large {
         return Shape {
+            tops: &TOPS,
             ports: 3,
             most: 512,
             width: 15,
@@ -47,6 +52,7 @@ pub fn shape(large: bool) -> Shape
         };
     }
     Shape {
+        tops: &TOPS,
         ports: 3,
         most: 64,
         width: 15,
@@ -55,27 +61,29 @@ pub fn shape(large: bool) -> Shape
     }
 }
 
-// Whether none of a packet's values is above its top. The two addresses have the whole range of a word.
-pub fn right(
-    destination: u32,
-    source: u32,
-    protocol: u32,
-    destination_port: u32,
-    source_port: u32,
-    portless: u32,
-) -> bool
-    ensures { result ≡ packet_right large (destination ∷ source ∷ protocol ∷ destination_port ∷ source_port ∷ portless ∷ []) }
+// Does something with the shape of the kind that the words name, and with scratch for a store of that kind. Each kind has its branch here, with scratch of its own size: setting it to zeros takes the time that the kind needs. The compiled frame has room for the larger one.
+pub fn with_scratch<R, F: FnOnce(&Shape, &mut [u16], &mut [u32]) -> R>(words: &[u32], run: F) -> R
+    requires { (shape : _) (sets : _) (ends : _) → kind_of shape.now ≡ kind_in words.now → Scratch (suc shape.now.most) (length shape.now.tops.now) sets.now ends.now → F.pre run shape sets ends }
+    ensures { (shape : _) × (sets : _) × (ends : _) × (left_sets : _) × (left_ends : _) × (kind_of shape.now ≡ kind_in words.now) × F.post run shape sets ends result left_sets left_ends }
 {
-    if 255 < protocol {
-        return false;
+    if is_large(words) {
+        let mut sets = [0u16; LARGE];
+        let mut ends = [0u32; LARGE];
+        return run(&shape(true), &mut sets, &mut ends);
     }
-    if 65535 < destination_port {
-        return false;
-    }
-    if 65535 < source_port {
-        return false;
-    }
-    portless <= 1
+    let mut sets = [0u16; SMALL];
+    let mut ends = [0u32; SMALL];
+    run(&shape(false), &mut sets, &mut ends)
+}
+
+// Whether none of a packet's values is above its top. The two addresses have the whole range of a word.
+pub fn right(packet: Packet) -> bool
+    ensures { result ≡ packet_right large (values_in packet) }
+{
+    packet.protocol <= 255
+        && packet.destination_port <= 65535
+        && packet.source_port <= 65535
+        && packet.portless <= 1
 }
 
 // A rule: six low ends and six high ends besides its number and its action.
@@ -116,24 +124,25 @@ pub fn row_of(rule: Rule) -> [u32; 14]
 pub fn rule_at(rows: &[u32], place: u32) -> Rule
     ensures { given result ≡ rule_in 6 rows.now place }
 {
+    let table = Rows::of(rows);
     Rule {
-        number: table::number(rows, place),
-        action: table::action(rows, place),
+        number: table.number(place),
+        action: table.action(place),
         low: [
-            table::low(rows, place, 0),
-            table::low(rows, place, 1),
-            table::low(rows, place, 2),
-            table::low(rows, place, 3),
-            table::low(rows, place, 4),
-            table::low(rows, place, 5),
+            table.low(place, 0),
+            table.low(place, 1),
+            table.low(place, 2),
+            table.low(place, 3),
+            table.low(place, 4),
+            table.low(place, 5),
         ],
         high: [
-            table::high(rows, place, 0),
-            table::high(rows, place, 1),
-            table::high(rows, place, 2),
-            table::high(rows, place, 3),
-            table::high(rows, place, 4),
-            table::high(rows, place, 5),
+            table.high(place, 0),
+            table.high(place, 1),
+            table.high(place, 2),
+            table.high(place, 3),
+            table.high(place, 4),
+            table.high(place, 5),
         ],
     }
 }

@@ -1,3 +1,2 @@
 pub mod Spelled
-pub mod Fitted
 pub mod Whole

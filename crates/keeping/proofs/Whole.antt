@@ -1,6 +1,6 @@
 -- What is kept of a whole capture, over the definitions of specs/Whole.antt: a turn of the loop, and that the written file gives the kept records back.
 -- Assumes nothing.
-use Rattle.std.specs.Prelude.{◌≡◌, Bool, cond, leb, take, drop}
+use Rattle.std.specs.Prelude.{◌≡◌, Bool, cond, Result, Ok, Err, leb, take, drop}
 use Rattle.std.proofs.Math.Path.{refl, ap}
 use Rattle.std.proofs.Common.{◌∙◌, arith, lit<, get_or-take, get_or-drop}
 use Rattle.std.proofs.Math.Bool.{true, false}
@@ -10,10 +10,9 @@ use Rattle.std.proofs.Math.ListN.{length, length-take}
 use Rattle.octets.specs.declared.Order.{Order}
 use Rattle.octets.specs.declared.Order.TheVariants.{Big, Little}
 use Rattle.octets.specs.Octets.{word}
-use Rattle.capture.specs.declared.Next.{Next}
-use Rattle.capture.specs.declared.Next.TheVariants.{Edge, Cut, TooLong, Data}
-use Rattle.capture.specs.Pcap.{next_of}
-use Rattle.listing.specs.declared.Read.TheVariants.{Record, End}
+use Rattle.capture.specs.declared.End.{End}
+use Rattle.capture.specs.declared.End.TheVariants.{Cut}
+use Rattle.capture.specs.Pcap.{next_of, ending_of}
 use Rattle.listing.proofs.Records.{data_small}
 use Rattle.listing.specs.Records.{read_of, wanted_of}
 use Rattle.lookup.specs.Walk.{lookup_packet}
@@ -38,16 +37,14 @@ module _ (ws : List ℕ) (a : ℕ) (o : Order) (s : List ℕ) where
   one_kept n l true e = rw (e, head_word 0 (lit< tt), head_word 4 (lit< tt), head_word 12 (lit< tt))
   one_kept n l false e = rw e
 
-  each : (m : Next) → all_bytes (chosen ws a (follow o s (packets_of o) m).packets) ≡ kept_by ws a o s (read_of m (length (take (wanted_of m) (drop 16 s))))
+  each : (m : Result ℕ End) → all_bytes (chosen ws a (follow o s (packets_of o) m).packets) ≡ kept_by ws a o s (read_of m (length (take (wanted_of m) (drop 16 s))))
   unfolding kept_all
-  each Edge = no_more 0
-  each Cut = no_more 1
-  each TooLong = no_more 2
-  each (Data n) = whole (leb n (length (take n (drop 16 s))))
+  each (Err e) = no_more (ending_of e)
+  each (Ok n) = whole (leb n (length (take n (drop 16 s))))
     where
-      whole : (b : Bool) → all_bytes (chosen ws a (cond b (before (front o s n) (packets_of o (drop n (drop 16 s)))) (none 1)).packets) ≡ kept_by ws a o s (cond b (Record n) (End 1))
+      whole : (b : Bool) → all_bytes (chosen ws a (cond b (before (front o s n) (packets_of o (drop n (drop 16 s)))) (none (ending_of Cut))).packets) ≡ kept_by ws a o s (cond b (Ok n) (Err Cut))
       whole true = one_kept n (packets_of o (drop n (drop 16 s))) _ refl
-      whole false = no_more 1
+      whole false = no_more (ending_of Cut)
 
   -- THE LOOP'S TURN. Where reading gives the bytes s of a capture in their order, 16 for a header and then as many as are wanted for its data, what is written in a turn is how what is kept of s begins or ends.
   pub turn : kept_all ws a o s ≡ kept_by ws a o s (read_of (next_of o (take 16 s)) (length (take (wanted_of (next_of o (take 16 s))) (drop 16 s))))
@@ -69,30 +66,26 @@ module _ (o : Order) where
   read_short zero s = nil
   read_short (suc n) s = by_next (next_of o (take 16 s)) refl (λ k. read_short n (drop k (drop 16 s)))
     where
-      whole : (k : ℕ) (b : Bool) → k ≤ 16384 → AllShort (packets_in n o (drop k (drop 16 s))).packets → AllShort (cond b (before (front o s k) (packets_in n o (drop k (drop 16 s)))) (none 1)).packets
+      whole : (k : ℕ) (b : Bool) → k ≤ 16384 → AllShort (packets_in n o (drop k (drop 16 s))).packets → AllShort (cond b (before (front o s k) (packets_in n o (drop k (drop 16 s)))) (none (ending_of Cut))).packets
       whole k true h x = let n : length (take k (drop 16 s)) ≤ 16384 = omega (arith, length-take k (drop 16 s)) in cons n x
       whole k false h x = nil
 
-      by_next : (m : Next) → m ≡ next_of o (take 16 s) → ((k : ℕ) → AllShort (packets_in n o (drop k (drop 16 s))).packets) → AllShort (follow o s (packets_in n o) m).packets
-      by_next Edge e h = nil
-      by_next Cut e h = nil
-      by_next TooLong e h = nil
-      by_next (Data k) e h = whole k (leb k (length (take k (drop 16 s)))) (data_small o (take 16 s) k e) (h k)
+      by_next : (m : Result ℕ End) → m ≡ next_of o (take 16 s) → ((k : ℕ) → AllShort (packets_in n o (drop k (drop 16 s))).packets) → AllShort (follow o s (packets_in n o) m).packets
+      by_next (Err z) e h = nil
+      by_next (Ok k) e h = whole k (leb k (length (take k (drop 16 s)))) (data_small o (take 16 s) k e) (h k)
 
   pub read_numbers : (n : ℕ) (s : List ℕ) → Bytes s → AllNumbers (packets_in n o s).packets
   unfolding packets_in
   read_numbers zero s w = nil
   read_numbers (suc n) s w = by_next (next_of o (take 16 s)) (λ k. read_numbers n (drop k (drop 16 s)) (dropped k (drop 16 s) (dropped 16 s w)))
     where
-      whole : (k : ℕ) (b : Bool) → AllNumbers (packets_in n o (drop k (drop 16 s))).packets → AllNumbers (cond b (before (front o s k) (packets_in n o (drop k (drop 16 s)))) (none 1)).packets
+      whole : (k : ℕ) (b : Bool) → AllNumbers (packets_in n o (drop k (drop 16 s))).packets → AllNumbers (cond b (before (front o s k) (packets_in n o (drop k (drop 16 s)))) (none (ending_of Cut))).packets
       whole k true x = cons (record { seconds = word_fits o s 0 w; fraction = word_fits o s 4 w; original = word_fits o s 12 w }) x
       whole k false x = nil
 
-      by_next : (m : Next) → ((k : ℕ) → AllNumbers (packets_in n o (drop k (drop 16 s))).packets) → AllNumbers (follow o s (packets_in n o) m).packets
-      by_next Edge h = nil
-      by_next Cut h = nil
-      by_next TooLong h = nil
-      by_next (Data k) h = whole k (leb k (length (take k (drop 16 s)))) (h k)
+      by_next : (m : Result ℕ End) → ((k : ℕ) → AllNumbers (packets_in n o (drop k (drop 16 s))).packets) → AllNumbers (follow o s (packets_in n o) m).packets
+      by_next (Err e) h = nil
+      by_next (Ok k) h = whole k (leb k (length (take k (drop 16 s)))) (h k)
 
 -- and so are those of them that are kept
 module _ (ws : List ℕ) (a : ℕ) where

@@ -1,25 +1,23 @@
 -- What the program `keep` is asked for, and what it keeps.
 -- Assumes nothing: these are definitions.
-use Rattle.std.specs.Prelude.{Bool, cond, ◌&&◌, List, [], ◌∷◌, ℕ, ◌+◌, ◌-◌, ◌*◌, ltb, eqb, length}
+use Rattle.std.specs.Prelude.{Bool, cond, ◌&&◌, Option, Some, None, List, [], ◌∷◌, ℕ, ◌+◌, ◌-◌, ◌*◌, ltb, eqb, length}
 use Rattle.octets.specs.declared.Order.{Order}
 use Rattle.octets.specs.Octets.{word}
 use Rattle.lookup.specs.declared.Found.{Found}
 use Rattle.lookup.specs.Walk.{lookup_packet}
 use Rattle.writing.specs.Writing.{record_bytes}
 use Rattle.writing.specs.Packets.{Packet}
-use Rattle.keeping.specs.declared.Asked.{Asked}
-use Rattle.keeping.specs.declared.Asked.TheVariants.{Action, Nothing}
 
 -- ---- "its one argument is an action"
 
 -- the number that these bytes spell behind the digits of v: nothing where one of them is no digit, 48 to 57, or the number has more than 32 bits
-unfoldable pub spelled : ℕ → List ℕ → Asked
-spelled v [] = Action v
-spelled v (b ∷ bs) = cond (ltb b 48) Nothing (cond (ltb 57 b) Nothing (cond (ltb 4294967295 (v * 10 + (b - 48))) Nothing (spelled (v * 10 + (b - 48)) bs)))
+unfoldable pub spelled : ℕ → List ℕ → Option ℕ
+spelled v [] = Some v
+spelled v (b ∷ bs) = cond (ltb b 48) None (cond (ltb 57 b) None (cond (ltb 4294967295 (v * 10 + (b - 48))) None (spelled (v * 10 + (b - 48)) bs)))
 
 -- one digit at least
-abbrev pub asked_in : List ℕ → Asked
-asked_in t = cond (eqb (length t) 0) Nothing (spelled 0 t)
+abbrev pub asked_in : List ℕ → Option ℕ
+asked_in t = cond (eqb (length t) 0) None (spelled 0 t)
 
 -- ---- "the records whose lookup gave that action"; "refused packets are left out"
 

@@ -5,12 +5,11 @@ use mathlib.Core.Bool.{cond}
 use mathlib.Core.List.{List, [], ◌∷◌, ◌++◌}
 use Prim.Native.Nat.{ℕ, zero, suc, ◌+◌, ◌-◌, ◌*◌, ◌/◌, ◌≤◌, ◌<◌}
 use native.Mathlib.Omega.{arith}
-use native.Mathlib.Nat.{add-zero}
 use native.Mathlib.Numerals.{add-one}
 use lib.Dec.{ltb, eqb}
-use lib.ListN.{length, get_or, take, drop}
+use lib.ListN.{length, get_or, take, drop, length-drop}
 use lib.Seq.{drop-drop, drop-cons, take-suc, take_all}
-use borrow.Author.Tests.{lt-ltb, le-ltb, ltb-true, ltb-false, ne_eqb}
+use borrow.Author.Tests.{lt-ltb, le-ltb, ltb-true, ne_eqb}
 use Rattle.model.specs.Rules.{Tree, loc}
 use Rattle.model.proofs.Tests.{by_test}
 use Rattle.cells.specs.Text.{cell_word}
@@ -37,10 +36,22 @@ module _ (ws : List ℕ) (c : ℕ) where
   unfolding cells_on
   cells_spent m k q = rw q
 
-  cells_most : (n k : ℕ) → length (cells_on ws c n k) ≤ n
+  pub cells_most : (n k : ℕ) → length (cells_on ws c n k) ≤ n
   unfolding cells_on
   cells_most zero k = omega arith
   cells_most (suc n) k = by_test (ltb k c) (λ q. rw q (omega (arith, cells_most n (cell_word ws k 1)))) (λ q. rw q (omega arith))
+
+  -- each of them is one of the store's
+  cells_in : (n k i : ℕ) → i < length (cells_on ws c n k) → get_or (cells_on ws c n k) i 0 < c
+  unfolding cells_on
+  cells_in zero k i h = absurd (omega arith)
+  cells_in (suc n) k zero h = by_test (ltb k c) (λ q. rw q (ltb-true k c q)) (λ q. absurd (let z : 0 < 0 = rw q at h in omega arith))
+  cells_in (suc n) k (suc i) h =
+      by_test (ltb k c)
+      (λ q.
+      let z : suc i < suc (length (cells_on ws c n (cell_word ws k 1))) = rw q at h in
+      rw q (cells_in n (cell_word ws k 1) i (omega arith)))
+      (λ q. absurd (let z : suc i < 0 = rw q at h in omega arith))
 
   -- THE CHAIN at cell k, by its cells
   chain_cells : (f : ℕ → Tree ℕ) (n k : ℕ) → chain_in ws c f n k ≡ chain_by (λ j. cell_word ws j 0) (λ j. f (cell_word ws j 2)) (cells_on ws c n k)
@@ -61,53 +72,34 @@ chain_at ws c left k = chain_by (end_cell ws) (below_cell ws c left) (cells_on w
 pub tree_cells : (ws : List ℕ) (c left k : ℕ) → 0 < left → tree_in ws c left k ≡ chain_at ws c left k
 tree_cells ws c left k h = tree_chain ws c left k h ∙ chain_cells ws c (λ d. tree_in ws c (left - 1) d) c k
 
--- COUNTING A CHAIN: m cells are passed, and the chain goes on at a cell
-pub record Passing (ws : List ℕ) (c k m cell : ℕ) : Type 0 where
-  pub most : m ≤ c
-  pub sum : length (cells_on ws c c k) ≡ m + length (cells_on ws c (c - m) cell)
-
-module _ (ws : List ℕ) (c k : ℕ) where
-  pub passing_start : Passing ws c k 0 k
-  passing_start = let z : c - 0 ≡ c = omega arith in record { most = omega arith; sum = rw z (omega arith) }
-
-  module _ (m cell : ℕ) (o : Passing ws c k m cell) where
-    pub passing_out : c ≤ cell → (m ≡ length (cells_on ws c c k)) × (m ≤ c)
-    passing_out h = (omega (arith, o.sum, ap length (cells_out ws c (c - m) cell h)), o.most)
-
-    pub passing_done : c ≤ m → (m ≡ length (cells_on ws c c k)) × (m ≤ c)
-    passing_done h = (omega (arith, o.sum, ap length (cells_spent ws c (c - m) cell (omega arith))), o.most)
-
-    pub passing_on : m < c → cell < c → (next : ℕ) → next ≡ cell_word ws cell 1 → Passing ws c k (m + 1) next
-    passing_on h l next e = record { most = omega arith; sum = rw e (omega (arith, o.sum, ap length (cells_next ws c (c - m) (c - (m + 1)) cell (omega arith) l))) }
-
--- i cells of the chain are passed, and the others go on at a cell
-pub record Along (ws : List ℕ) (c k m i cell : ℕ) : Type 0 where
+-- i cells of the chain are passed, and these are left
+pub record Along (ws : List ℕ) (c k m i : ℕ) (rest : List ℕ) : Type 0 where
   pub count : m ≡ length (cells_on ws c c k)
-  pub most : m ≤ c
-  pub rest : cells_on ws c (c - i) cell ≡ drop i (cells_on ws c c k)
+  pub is : rest ≡ drop i (cells_on ws c c k)
 
-module _ (ws : List ℕ) (c k m : ℕ) where
-  pub along_start : m ≡ length (cells_on ws c c k) → m ≤ c → Along ws c k m 0 k
-  along_start e h = let z : c - 0 ≡ c = omega arith in record { count = e; most = h; rest = rw z }
+module _ (ws : List ℕ) (c k m i : ℕ) {rest : List ℕ} (o : Along ws c k m i rest) where
+  pub along_done : rest ≡ [] → m ≤ i
+  along_done q = omega (arith, o.count, length-drop i (cells_on ws c c k), ap length (sym o.is ∙ q))
 
-  module _ {i cell : ℕ} (o : Along ws c k m i cell) (h : i < m) where
-    split : drop i (cells_on ws c c k) ≡ get_or (cells_on ws c c k) i 0 ∷ drop (i + 1) (cells_on ws c c k)
-    split = rw (add-one, drop-cons (cells_on ws c c k) i 0 (omega (arith, o.count)))
+  module _ {cell : ℕ} {rest' : List ℕ} (q : rest ≡ cell ∷ rest') where
+    along_some : i < m
+    along_some = omega (arith, o.count, length-drop i (cells_on ws c c k), ap length (sym o.is ∙ q))
 
-    -- the cell is one of the store's
-    pub along_in : cell < c
-    along_in = by_test (ltb cell c)
-        (λ q. omega (arith, ltb-true cell c q))
-        (λ q. absurd (omega (arith, ap length (sym (cells_out ws c (c - i) cell (ltb-false cell c q)) ∙ o.rest ∙ split))))
+    both : cell ∷ rest' ≡ get_or (cells_on ws c c k) i 0 ∷ drop (i + 1) (cells_on ws c c k)
+    both = sym q ∙ o.is ∙ rw (add-one, drop-cons (cells_on ws c c k) i 0 (omega (arith, o.count, along_some)))
 
-    both : cell ∷ cells_on ws c (c - (i + 1)) (cell_word ws cell 1) ≡ get_or (cells_on ws c c k) i 0 ∷ drop (i + 1) (cells_on ws c c k)
-    both = sym (cells_next ws c (c - i) (c - (i + 1)) cell (omega (arith, o.most)) along_in) ∙ o.rest ∙ split
-
-    pub along_here : cell ≡ get_or (cells_on ws c c k) i 0
+    along_here : cell ≡ get_or (cells_on ws c c k) i 0
     along_here = let b = both in cc
 
-    pub along_on : (next : ℕ) → next ≡ cell_word ws cell 1 → Along ws c k m (i + 1) next
-    along_on next e = let b = both in record { count = o.count; most = o.most; rest = rw e (cc) }
+    pub along_in : cell < c
+    along_in = rw along_here (cells_in ws c c k i (omega (arith, o.count, along_some)))
+
+    along_on : Along ws c k m (i + 1) rest'
+    along_on = let b = both in record { count = o.count; is = cc }
+
+    -- one cell more is passed
+    along_take : take (i + 1) (cells_on ws c c k) ≡ take i (cells_on ws c c k) ++ (cell ∷ [])
+    along_take = rw (add-one, along_here) (take-suc (cells_on ws c c k) i 0 (omega (arith, o.count, along_some)))
 
 -- where no field is left there is no block
 pub none_left : (ws : List ℕ) (c left k : ℕ) → left ≡ 0 → 0 ≡ blocks (tree_in ws c left k)
@@ -128,38 +120,42 @@ module _ (ws : List ℕ) (c left k : ℕ) where
   pub last_left : {m total : ℕ} → left ≡ 1 → m ≡ length (cells_on ws c c k) → total ≡ blocks_up (depth m) m → total ≡ blocks (tree_in ws c left k)
   last_left {m} {total} e q t = omega (arith, tree_own m (omega arith) q, none_below e (cells_on ws c c k))
 
--- COUNTING: the blocks of the chain itself, and of what is below the first i cells
-pub record Counted (ws : List ℕ) (c left k m i cell total : ℕ) : Type 0 where
-  pub along : Along ws c k m i cell
+-- COUNTING: the blocks of the chain itself, and of what is below the cells that are passed
+pub record Counted (ws : List ℕ) (c left k m : ℕ) (rest : List ℕ) (total : ℕ) : Type 0 where
+  pub i : ℕ
+  pub along : Along ws c k m i rest
   pub is : total ≡ blocks_up (depth m) m + under_blocks (chain_by (end_cell ws) (below_cell ws c left) (take i (cells_on ws c c k)))
   pub some : 0 < left
   pub room : blocks (tree_in ws c left k) ≤ 65536
 
-pub counted_start : (ws : List ℕ) (c left k m total : ℕ) → 0 < left → blocks (tree_in ws c left k) ≤ 65536 → m ≡ length (cells_on ws c c k) → m ≤ c → total ≡ blocks_up (depth m) m → Counted ws c left k m 0 k total
+pub counted_start : (ws : List ℕ) (c left k m total : ℕ) → 0 < left → blocks (tree_in ws c left k) ≤ 65536 → m ≡ length (cells_on ws c c k) → total ≡ blocks_up (depth m) m → Counted ws c left k m (cells_on ws c c k) total
 unfolding under_blocks
-counted_start ws c left k m total p r e h q = record { along = along_start ws c k m e h; is = omega arith; some = p; room = r }
+counted_start ws c left k m total p r e q = record { i = 0; along = record { count = e; is = refl }; is = omega arith; some = p; room = r }
 
-module _ (ws : List ℕ) (c left k m : ℕ) {i cell total : ℕ} (o : Counted ws c left k m i cell total) where
-  pub counted_done : m ≤ i → total ≡ blocks (tree_in ws c left k)
+module _ (ws : List ℕ) (c left k m : ℕ) {rest : List ℕ} {total : ℕ} (o : Counted ws c left k m rest total) where
+  pub counted_done : rest ≡ [] → total ≡ blocks (tree_in ws c left k)
   counted_done h =
-      o.is ∙ sym (tree_own ws c left k m o.some o.along.count ∙ ap (λ z. blocks_up (depth m) m + under_blocks (chain_by (end_cell ws) (below_cell ws c left) z)) (sym (take_all i (cells_on ws c c k) (omega (arith, o.along.count)))))
+      let d = along_done ws c k m o.i o.along h in
+      o.is ∙ sym (tree_own ws c left k m o.some o.along.count ∙ ap (λ z. blocks_up (depth m) m + under_blocks (chain_by (end_cell ws) (below_cell ws c left) z)) (sym (take_all o.i (cells_on ws c c k) (omega (arith, o.along.count)))))
 
-  module _ (h : i < m) where
-    one_more : under_blocks (chain_by (end_cell ws) (below_cell ws c left) (take (i + 1) (cells_on ws c c k))) ≡ under_blocks (chain_by (end_cell ws) (below_cell ws c left) (take i (cells_on ws c c k))) + blocks (below_cell ws c left cell)
+  module _ {cell : ℕ} {rest' : List ℕ} (q : rest ≡ cell ∷ rest') where
+    pub counted_in : cell < c
+    counted_in = along_in ws c k m o.i o.along q
+
+    one_more : under_blocks (chain_by (end_cell ws) (below_cell ws c left) (take (o.i + 1) (cells_on ws c c k))) ≡ under_blocks (chain_by (end_cell ws) (below_cell ws c left) (take o.i (cells_on ws c c k))) + blocks (below_cell ws c left cell)
     one_more =
-        let x : take (i + 1) (cells_on ws c c k) ≡ take i (cells_on ws c c k) ++ (cell ∷ []) = rw (add-one, along_here ws c k m o.along h) (take-suc (cells_on ws c c k) i 0 (omega (arith, o.along.count))) in
-        ap (λ z. under_blocks (chain_by (end_cell ws) (below_cell ws c left) z)) x ∙ under_snoc (end_cell ws) (below_cell ws c left) (take i (cells_on ws c c k)) cell
+        ap (λ z. under_blocks (chain_by (end_cell ws) (below_cell ws c left) z)) (along_take ws c k m o.i o.along q) ∙ under_snoc (end_cell ws) (below_cell ws c left) (take o.i (cells_on ws c c k)) cell
 
     pub counted_room : total + blocks (below_cell ws c left cell) ≤ 65536
-    counted_room = omega (arith, o.is, o.room, tree_own ws c left k m o.some o.along.count, one_more, under_take (end_cell ws) (below_cell ws c left) (cells_on ws c c k) (i + 1))
+    counted_room = omega (arith, o.is, o.room, tree_own ws c left k m o.some o.along.count, one_more, under_take (end_cell ws) (below_cell ws c left) (cells_on ws c c k) (o.i + 1))
 
-    pub counted_on : (next g : ℕ) → next ≡ cell_word ws cell 1 → g ≡ blocks (below_cell ws c left cell) → Counted ws c left k m (i + 1) next (total + g)
-    counted_on next g e z = record { along = along_on ws c k m o.along h next e; is = omega (arith, o.is, one_more); some = o.some; room = o.room }
+    pub counted_on : (g : ℕ) → g ≡ blocks (below_cell ws c left cell) → Counted ws c left k m rest' (total + g)
+    counted_on g z = record { i = o.i + 1; along = along_on ws c k m o.i o.along q; is = omega (arith, o.is, one_more); some = o.some; room = o.room }
 
 -- WRITING: the blocks of the chain at cell k, from block a on; its lowest level stands from block base on
-pub record Turn (ws : List ℕ) (c left k a m n base : ℕ) (w₀ w : List ℕ) (i cell b : ℕ) : Type 0 where
+pub record Turn (ws : List ℕ) (c left k a m n base : ℕ) (w₀ w : List ℕ) (i : ℕ) (rest : List ℕ) (b : ℕ) : Type 0 where
   pub goes : Goes w₀ w (end_cell ws) (below_cell ws c left) (cells_on ws c c k) base i b
-  pub along : Along ws c k m i cell
+  pub along : Along ws c k m i rest
   pub number : n ≡ parts m
   pub total : base + n ≡ a + blocks_up (depth m) m
   pub some : 0 < left
@@ -203,33 +199,36 @@ module _ (ws : List ℕ) (c left k a m : ℕ) (p : 0 < left) (e : m ≡ length (
   pub chain_fits : {w : List ℕ} → Roomy w a (tree_in ws c left k) → (16 * (a + blocks_up (depth m) m) ≤ length w) × (a + blocks_up (depth m) m ≤ 16777216)
   chain_fits o = (omega (arith, tree_own ws c left k m p e, o.fits), omega (arith, tree_own ws c left k m p e, o.few))
 
-  pub turn_start : {w₀ w : List ℕ} (n base b : ℕ) → m ≤ c → Roomy w₀ a (tree_in ws c left k) → Named (tree_in ws c left k) → n ≡ parts m → b ≡ a + blocks_up (depth m) m → base ≡ b - n
-      → Level w₀ w base n (λ i. top_end) (λ i. 0) → Turn ws c left k a m n base w w 0 k b
-  turn_start {w₀} {w} n base b few o s q t z l =
-      let y : base + n ≡ b = omega (arith, size_parts (depth m) m) in
-      record {
-        goes = goes_start w (end_cell ws) (below_cell ws c left) (cells_on ws c c k) base w m n b e q (sym y) (level_self l);
-        along = along_start ws c k m e few;
-        number = q;
-        total = y ∙ t;
-        some = p;
-        room = record { fits = omega (arith, l.long, o.fits); few = o.few };
-        named = s;
-      }
+  pub turn_start : {w₀ w : List ℕ} {n base b : ℕ} → Roomy w₀ a (tree_in ws c left k) → Named (tree_in ws c left k) → n ≡ parts m → base + n ≡ a + blocks_up (depth m) m → b ≡ base + n
+      → Level w₀ w base n (λ i. top_end) (λ i. 0) → Turn ws c left k a m n base w w 0 (cells_on ws c c k) b
+  turn_start {w₀} {w} {n} {base} {b} o s q t z l = record {
+    goes = goes_start w (end_cell ws) (below_cell ws c left) (cells_on ws c c k) base w m n b e q z (level_self l);
+    along = record { count = e; is = refl };
+    number = q;
+    total = t;
+    some = p;
+    room = record { fits = omega (arith, l.long, o.fits); few = o.few };
+    named = s;
+  }
 
-module _ (ws : List ℕ) (c left k a m : ℕ) {n base : ℕ} {w₀ w : List ℕ} {i cell b : ℕ} (o : Turn ws c left k a m n base w₀ w i cell b) where
-  module _ (h : i < m) where
+module _ (ws : List ℕ) (c left k a m : ℕ) {n base : ℕ} {w₀ w : List ℕ} {i : ℕ} {rest : List ℕ} {b : ℕ} (o : Turn ws c left k a m n base w₀ w i rest b) where
+  module _ {cell : ℕ} {rest' : List ℕ} (h : rest ≡ cell ∷ rest') where
+    some_left : i < m
+    some_left = along_some ws c k m i o.along h
+
+    pub turn_cell : cell < c
+    turn_cell = along_in ws c k m i o.along h
+
     pub turn_in : 16 * (base + i / 8) + 16 ≤ length w
-    turn_in = omega (arith, chain_fits ws c left k a m o.some o.along.count o.room, o.number, o.total, o.goes.long)
+    turn_in = omega (arith, some_left, chain_fits ws c left k a m o.some o.along.count o.room, o.number, o.total, o.goes.long)
 
     turn_fits : (16 * (b + blocks (below_cell ws c left cell)) ≤ length w₀) × (b + blocks (below_cell ws c left cell) ≤ 16777216)
     turn_fits =
         let en = end_cell ws in
         let u = below_cell ws c left in
         let xs = cells_on ws c c k in
-        let x : take (i + 1) xs ≡ take i xs ++ (cell ∷ []) = rw (add-one, along_here ws c k m o.along h) (take-suc xs i 0 (omega (arith, o.along.count))) in
         let y = under_take en u xs (i + 1) in
-        let s = ap (λ z. under_blocks (chain_by en u z)) x ∙ under_snoc en u (take i xs) cell in
+        let s = ap (λ z. under_blocks (chain_by en u z)) (along_take ws c k m i o.along h) ∙ under_snoc en u (take i xs) cell in
         let t = tree_own ws c left k m o.some o.along.count in
         let q : parts m ≡ parts (length xs) = ap parts o.along.count in
         (omega (arith, o.room.fits, o.goes.next, o.number, o.total), omega (arith, o.room.few, o.goes.next, o.number, o.total))
@@ -242,17 +241,17 @@ module _ (ws : List ℕ) (c left k a m : ℕ) {n base : ℕ} {w₀ w : List ℕ}
 
     pub turn_named : Named (below_cell ws c left cell)
     turn_named =
-        rw (along_here ws c k m o.along h)
-        (named_at (end_cell ws) (below_cell ws c left) (cells_on ws c c k) i (omega (arith, o.along.count)) (rw (tree_cells ws c left k o.some) at o.named))
+        rw (along_here ws c k m i o.along h)
+        (named_at (end_cell ws) (below_cell ws c left) (cells_on ws c c k) i (omega (arith, some_left, o.along.count)) (rw (tree_cells ws c left k o.some) at o.named))
 
-    pub turn_on : {w' w'' : List ℕ} {past next e l : ℕ} → w'' ≡ entered w' base i e l → length w' ≡ length w → Written w w' b past (below_cell ws c left cell) → next ≡ cell_word ws cell 1 → e ≡ get_or ws (2 + 8 * cell) 0
-        → l ≡ down_mark + cond (eqb (left - 1) 0) (cell_word ws cell 2) b → Turn ws c left k a m n base w₀ w'' (i + 1) next past
-    turn_on {w'} {w''} {past} {next} {e} {l} p q v z y x =
+    pub turn_on : {w' w'' : List ℕ} {past e l : ℕ} → w'' ≡ entered w' base i e l → length w' ≡ length w → Written w w' b past (below_cell ws c left cell) → e ≡ cell_word ws cell 0
+        → l ≡ down_mark + cond (eqb (left - 1) 0) (cell_word ws cell 2) b → Turn ws c left k a m n base w₀ w'' (i + 1) rest' past
+    turn_on {w'} {w''} {past} {e} {l} p q v y x =
         record {
           goes =
-              rw p (goes_on w₀ (end_cell ws) (below_cell ws c left) (cells_on ws c c k) base w i b o.goes w' past cell e l (omega (arith, o.along.count)) (along_here ws c k m o.along h) (omega (arith, turn_fits)) q v (y ∙ ap (λ j. get_or ws j 0) (sym (add-zero (2 + 8 * cell))))
+              rw p (goes_on w₀ (end_cell ws) (below_cell ws c left) (cells_on ws c c k) base w i b o.goes w' past cell e l (omega (arith, some_left, o.along.count)) (along_here ws c k m i o.along h) (omega (arith, turn_fits)) q v y
               (x ∙ ap (λ d. down_mark + d) (sym (entry_is ws c (left - 1) (cell_word ws cell 2) b))));
-          along = along_on ws c k m o.along h next z;
+          along = along_on ws c k m i o.along h;
           number = o.number;
           total = o.total;
           some = o.some;
@@ -265,8 +264,9 @@ module _ (ws : List ℕ) (c left k a m : ℕ) {n base : ℕ} {w₀ w : List ℕ}
       let f = chain_fits ws c left k a m o.some o.along.count o.room in
       (omega (arith, o.number, o.total), omega (arith, o.number, o.total, o.goes.long), omega (arith, o.number, o.total))
 
-  pub turn_done : {w₁ w' : List ℕ} {g h : ℕ → ℕ} → m ≤ i → Level w₁ w₀ base n g h → Raised w w' a base m → Written w₁ w' a b (tree_in ws c left k)
+  pub turn_done : {w₁ w' : List ℕ} {g h : ℕ → ℕ} → rest ≡ [] → Level w₁ w₀ base n g h → Raised w w' a base m → Written w₁ w' a b (tree_in ws c left k)
   turn_done {w₁} {w'} q l r =
+      let d = along_done ws c k m i o.along q in
       let t = tree_own ws c left k m o.some o.along.count in
       rebase l (omega (arith, o.total, o.number, size_parts (depth m) m)) (omega (arith, o.total))
       (rw (tree_cells ws c left k o.some) (goes_done w₀ (end_cell ws) (below_cell ws c left) (cells_on ws c c k) base w i b o.goes w' a m (omega (arith, o.along.count)) o.along.count turn_above.0 r))

@@ -1,27 +1,22 @@
 // The blocks of the tree that a store's cells give by their links: counted, and written into words that have room for them. The cells are the part of a store from its two links on. They are only read, each on its way once or twice.
 #![tactic(auto)]
 
-ghost use Rattle.std.specs.Prelude.{◌≡◌, cond, ◌++◌, ◌+◌, ◌-◌, ◌*◌, ◌/◌, ◌≤◌, ◌<◌, eqb, length, get_or, drop};
+ghost use Rattle.std.specs.Prelude.{◌≡◌, cond, ◌++◌, ◌+◌, ◌*◌, ◌/◌, ◌≤◌, eqb, length, get_or, drop};
 ghost use Rattle.search.specs.Links.{tree_in};
-ghost use Rattle.blocks.specs.Blocks.{top_end, down_mark, depth, blocks_up, parts, blocks, blocks_text};
+ghost use Rattle.blocks.specs.Blocks.{top_end, down_mark, blocks, blocks_text};
 ghost use Rattle.blocks.specs.Written.{entered, Level, Links, Raised, Roomy, Named, Written};
 ghost use Rattle.lay.specs.Chain.{cells_on};
+
+use blocks::{Chain, DOWN_MARK, Entry, Span, TOP_END};
+
+mod links;
 
 // How many cells the chain at cell k has.
 fn chain_length(part: &[u32], c: u32, k: u32) -> usize
     requires { (length part.now ≡ 2 + 8 * c) × (c ≤ 65536) }
     ensures { (result ≡ length (cells_on part.now c c k)) × (result ≤ c) }
 {
-    let mut m: usize = 0;
-    let mut cell = k;
-    while m < (c as usize) {
-        if c <= cell {
-            return m;
-        }
-        cell = part[2 + 8 * (cell as usize) + 1];
-        m += 1;
-    }
-    m
+    links::chain_at(part, c, k).count()
 }
 
 // The number of blocks of the tree at cell k, with left fields from this one on.
@@ -37,14 +32,9 @@ fn count_chain(part: &[u32], c: u32, left: u32, k: u32) -> usize
     if left == 1 {
         return total;
     }
-    let mut cell = k;
-    let mut i: usize = 0;
-    while i < m {
-        let at = 2 + 8 * (cell as usize);
-        let below = count_chain(part, c, left - 1, part[at + 2]);
+    for cell in links::chain_at(part, c, k) {
+        let below = count_chain(part, c, left - 1, links::word_of(part, cell, 2));
         total += below;
-        cell = part[at + 1];
-        i += 1;
     }
     total
 }
@@ -62,66 +52,52 @@ fn blank(words: &mut [u32], b: usize)
     requires { 16 * (b + 1) ≤ length words.old }
     ensures { Level words.old words.new b 1 (λ i. top_end) (λ i. 0) }
 {
-    let at = 16 * b;
-    let mut i: usize = 0;
-    while i < 8 {
-        words[at + i] = 4294967295;
-        words[at + (8 + i)] = 0;
-        i += 1;
-    }
+    let links = 16 * b + 8;
+    words[16 * b..links].fill(TOP_END);
+    words[links..links + 8].fill(0);
 }
 
-// Writes n such blocks, from block b on.
-fn clear(words: &mut [u32], b: usize, n: usize)
-    requires { 16 * (b + n) ≤ length words.old }
-    ensures { Level words.old words.new b n (λ i. top_end) (λ i. 0) }
+// Writes the blocks of a level so.
+fn clear(words: &mut [u32], level: Span)
+    requires { 16 * (level.first + level.count) ≤ length words.old }
+    ensures { Level words.old words.new level.first level.count (λ i. top_end) (λ i. 0) }
 {
-    let mut j: usize = 0;
-    while j < n {
-        blank(words, b + j);
-        j += 1;
+    for j in 0..level.count {
+        blank(words, level.first + j);
     }
 }
 
 // Writes an end and its link at place j of the level that stands from block b on.
-fn put_entry(words: &mut [u32], b: usize, j: usize, end: u32, link: u32)
+fn put_entry(words: &mut [u32], b: usize, j: usize, entry: Entry)
     requires { 16 * (b + j / 8) + 16 ≤ length words.old }
-    ensures { words.new ≡ entered words.old b j end link }
+    ensures { words.new ≡ entered words.old b j entry.end entry.link }
 {
     let at = 16 * (b + j / 8);
     let i = j % 8;
-    words[at + i] = end;
-    words[at + (8 + i)] = link;
+    words[at + i] = entry.end;
+    words[at + (8 + i)] = entry.link;
 }
 
-// Writes the n blocks, from block b on, that lead to the m blocks from a block on.
-fn put_links(words: &mut [u32], b: usize, n: usize, from: usize, m: usize)
-    requires { (b + n ≤ from) × (16 * (from + m) ≤ length words.old) × (from + m ≤ 16777216) × (m ≤ 8 * n) }
-    ensures { Links words.old words.new b n from m }
+// Writes the blocks of a level that lead to those of the level below it.
+fn put_links(words: &mut [u32], above: Span, below: Span)
+    requires { (above.first + above.count ≤ below.first) × (16 * (below.first + below.count) ≤ length words.old) × (below.first + below.count ≤ 16777216) }
+    ensures { Links words.old words.new above.first above.count below.first below.count }
 {
-    let mut j: usize = 0;
-    while j < 8 * n {
-        let end = blocks::last_end(words, from, m, j);
-        let link = blocks::link_to(from, m, j);
-        put_entry(words, b, j, end, link);
-        j += 1;
+    for j in 0..8 * above.count {
+        let entry = below.entry_above(words, j);
+        put_entry(words, above.first, j, entry);
     }
 }
 
-// Writes the levels above the k ends whose blocks stand from a block on: the root is then at block a.
-fn put_upper(words: &mut [u32], a: usize, from: usize, k: usize)
-    requires { (from + parts k ≡ a + blocks_up (depth k) k) × (16 * (from + parts k) ≤ length words.old) × (from + parts k ≤ 16777216) }
-    ensures { Raised words.old words.new a from k }
+// Writes the levels of a chain above the lowest, which stands.
+fn put_upper(words: &mut [u32], chain: Chain)
+    requires { (16 * (chain.lowest.first + chain.lowest.count) ≤ length words.old) × (chain.lowest.first + chain.lowest.count ≤ 16777216) }
+    ensures { Raised words.old words.new chain.root chain.lowest.first chain.ends }
 {
-    let mut at = from;
-    let mut left = k;
-    while 8 < left {
-        let n = (left + 7) / 8;
-        let up = (n + 7) / 8;
-        let b = at - up;
-        put_links(words, b, up, at, n);
-        at = b;
-        left = n;
+    let mut level = chain.lowest;
+    while let Some(above) = level.above() {
+        put_links(words, above, level);
+        level = above;
     }
 }
 
@@ -131,9 +107,9 @@ fn down_to(left: u32, place: u32, b: usize) -> u32
     ensures { result ≡ down_mark + cond (eqb left 0) place b }
 {
     if left == 0 {
-        return 2147483648 + place;
+        return DOWN_MARK + place;
     }
-    2147483648 + (b as u32)
+    DOWN_MARK + (b as u32)
 }
 
 // Writes the blocks of the tree at cell k, with left fields from this one on, from block a on: what is below each cell of its chain, with the cell's end and the link down, and then the levels above these. Answers the block behind them.
@@ -144,25 +120,19 @@ fn write_chain(words: &mut [u32], part: &[u32], c: u32, left: u32, k: u32, a: us
     if left == 0 {
         return a;
     }
-    let m = chain_length(part, c, k);
-    let n = (m + 7) / 8;
-    let mut b = a + blocks::blocks_for(m);
-    let base = b - n;
-    clear(words, base, n);
-    let mut cell = k;
-    let mut i: usize = 0;
-    while i < m {
-        let at = 2 + 8 * (cell as usize);
-        let end = part[at];
-        let below = part[at + 2];
-        let past = write_chain(words, part, c, left - 1, below, b);
-        let link = down_to(left - 1, below, b);
-        put_entry(words, base, i, end, link);
-        cell = part[at + 1];
+    let chain = Chain::at(a, chain_length(part, c, k));
+    let lowest = chain.lowest;
+    clear(words, lowest);
+    let mut b = lowest.past();
+    for (i, cell) in links::chain_at(part, c, k).enumerate() {
+        let end = links::word_of(part, cell, 0);
+        let down = links::word_of(part, cell, 2);
+        let past = write_chain(words, part, c, left - 1, down, b);
+        let link = down_to(left - 1, down, b);
+        put_entry(words, lowest.first, i, Entry { end, link });
         b = past;
-        i += 1;
     }
-    put_upper(words, a, base, m);
+    put_upper(words, chain);
     b
 }
 

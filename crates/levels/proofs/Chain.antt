@@ -8,7 +8,7 @@ use native.Mathlib.Omega.{arith}
 use native.Mathlib.Numerals.{add-one}
 use lib.Dec.{ltb, eqb}
 use lib.ListN.{length, get_or, take, drop, length-drop, take-append-drop}
-use lib.Seq.{get_or-take, drop-drop, take-suc, take_all, drop-cons}
+use lib.Seq.{drop-drop, take-suc, take_all, drop-cons}
 use borrow.Author.Tests.{ltb-true, ltb-false, lt-ltb, le-ltb, eqb-true, eqb-false}
 use Rattle.model.specs.Lists.{keep}
 use Rattle.model.specs.Rules.{Tree, covers, ends}
@@ -16,7 +16,7 @@ use Rattle.model.proofs.Tests.{by_test, was_no, was_yes}
 use Rattle.rows.specs.Rows.{first_of, field_at, tree_at, under_at}
 use Rattle.rows.proofs.Sets.{tree_none, tree_step}
 use Rattle.blocks.specs.Blocks.{down_mark, depth, parts, blocks_up, level, lay, own_blocks, under_blocks, blocks, entry, end_at_place, link_at_place, chain_blocks, below_blocks, tree_blocks}
-use Rattle.blocks.specs.Written.{end_place, link_place, padded, Under}
+use Rattle.blocks.specs.Written.{end_place, link_place, Under}
 use Rattle.blocks.proofs.Words.{chain_past, chain_length, belows_past}
 use Rattle.blocks.proofs.Writing.{filled_done, size_parts}
 use Rattle.blocks.proofs.Chains.{chain_by, chain_by_lem, chained_own, under_snoc, belows_snoc, end_is, down_is, down_none, chain_lay}
@@ -96,40 +96,41 @@ chain_at rules f left ps = chain_by (λ e. e) (under_at rules f left ps) (ends_a
 tree_chain : (rules : List ℕ) (f left : ℕ) (ps : List ℕ) → (left ≡ 0 → ⊥) → tree_at rules f left ps ≡ chain_at rules f left ps
 tree_chain rules f left ps nz = tree_step rules f left ps nz ∙ chain_by_lem (under_at rules f left ps) (ends_at rules f ps)
 
--- THE ENDS of the set, as they are written in a buffer
-module _ (w rules : List ℕ) (f : ℕ) (ps : List ℕ) (a m : ℕ) (buffer : List ℕ) (count : m ≡ length (ends_at rules f ps)) (listed : take m buffer ≡ ends_at rules f ps) {own : ℕ} (k : own ≡ blocks_up (depth m) m) where
-  same_pads : (j : ℕ) → padded buffer m j ≡ padded (ends_at rules f ps) m j
-  same_pads j = by_test (ltb j m) (λ x. rw x (sym (get_or-take m buffer j 0 (ltb-true j m x)) ∙ ap (λ l. get_or l j 0) listed)) (λ x. rw x)
+-- ends that are written beside are those that a level is compared with
+pub ends_beside : (w : List ℕ) (first n : ℕ) (x : Bool) {es xs : List ℕ} {m : ℕ} → es ≡ xs → m ≡ length xs → Answers x (EndsStand w first n es (length es)) → Answers x (EndsStand w first n xs m)
+ends_beside w first n x e q r = rw q (rw e at r)
 
-  pub low_is : (x : Bool) → not x ≡ false → Answers x (EndsStand w (a + own - parts m) (parts m) buffer m) → a + own ≤ length w / 16 → Low w rules f ps a m (a + own - parts m)
-  low_is x t r h =
-      let s = said_yes x _ t r in
-      let y = size_parts (depth m) m in
-      record { count = count; total = omega arith; room = omega arith; stand = record { end = λ j i. s.end j i ∙ same_pads j; none = s.none } }
+-- THE ENDS of the set, over n blocks that are the lowest of their chain
+module _ (w rules : List ℕ) (f : ℕ) (ps : List ℕ) (a m : ℕ) (count : m ≡ length (ends_at rules f ps)) (first n : ℕ) (size : n ≡ parts m) (total : first + n ≡ a + blocks_up (depth m) m) where
+  pub low_is : (x : Bool) → not x ≡ false → Answers x (EndsStand w first n (ends_at rules f ps) m) → first + n ≤ length w / 16 → Low w rules f ps a m first
+  low_is x t r h = record { count = count; total = rw size at total; room = omega arith; stand = rw size at (said_yes x _ t r) }
 
   -- what stands refutes each way to say no
   module _ (left : ℕ) (nz : left ≡ 0 → ⊥) (v : Stands w a (tree_at rules f left ps)) where
     chained : Stands w a (chain_at rules f left ps)
     chained = rw (tree_chain rules f left ps nz) at v
 
-    own_is : own_blocks (chain_at rules f left ps) ≡ own
-    own_is = chained_own (λ e. e) (under_at rules f left ps) (ends_at rules f ps) ∙ ap (λ z. blocks_up (depth z) z) (sym count) ∙ sym k
+    own_is : own_blocks (chain_at rules f left ps) ≡ blocks_up (depth m) m
+    own_is = chained_own (λ e. e) (under_at rules f left ps) (ends_at rules f ps) ∙ ap (λ z. blocks_up (depth z) z) (sym count)
 
-    pub low_short : 16 * a ≤ length w → length w / 16 < a + own → ⊥
+    pub low_short : 16 * a ≤ length w → length w / 16 < first + n → ⊥
     low_short l h = omega (arith, long (λ e. e) (under_at rules f left ps) (ends_at rules f ps) w a chained, own_is)
 
-    pub has_ends : EndsStand w (a + own - parts m) (parts m) buffer m
+    pub has_ends : EndsStand w first n (ends_at rules f ps) m
     has_ends =
         let u = under_at rules f left ps in
         let es = ends_at rules f ps in
         let t = chain_at rules f left ps in
-        let l = rw (own_is, ← count) at (lowest (λ e. e) u es w a chained) in
-        record {
-          end = λ j i. stands_end w (a + own - parts m) (parts m) (end_at_place t) (link_at_place t (a + own)) (drop (16 * (a + own)) w) l j i ∙ end_is (λ e. e) u es j ∙ rw (← count) (sym (same_pads j));
-          none = λ j i h. stands_link w (a + own - parts m) (parts m) (end_at_place t) (link_at_place t (a + own)) (drop (16 * (a + own)) w) l j i ∙ down_none (λ e. e) u es (a + own) j (omega arith);
-        }
+        let z : a + blocks_up (depth m) m - parts m ≡ first = omega arith in
+        let l = rw (own_is, ← count, z) at (lowest (λ e. e) u es w a chained) in
+        let behind : ℕ = a + blocks_up (depth m) m in
+        rw size
+        (record {
+          end = λ j i. stands_end w first (parts m) (end_at_place t) (link_at_place t behind) (drop (16 * behind) w) l j i ∙ end_is (λ e. e) u es j ∙ rw (← count);
+          none = λ j i h. stands_link w first (parts m) (end_at_place t) (link_at_place t behind) (drop (16 * behind) w) l j i ∙ down_none (λ e. e) u es behind j (omega arith);
+        })
 
-    pub low_not : (x : Bool) → not x ≡ true → Answers x (EndsStand w (a + own - parts m) (parts m) buffer m) → ⊥
+    pub low_not : (x : Bool) → not x ≡ true → Answers x (EndsStand w first n (ends_at rules f ps) m) → ⊥
     low_not x t r = said_no x _ t r has_ends
 
 -- THE LOOP: the ends stand, the links down of the first i of them, and what is below these; what is below the next one begins at block b
@@ -208,9 +209,6 @@ module _ {w rules : List ℕ} {f left : ℕ} {ps : List ℕ} {a m base i b : ℕ
                 (λ c'. let d = eqb-false j i c' in o.link j (omega arith));
             below = o.below ∙ ap (below_blocks (chain_to rules f left ps i) (base + parts m)) v ∙ sym (rw (more, belows_snoc (λ e. e) u (take i es) e (base + parts m) (drop (16 * past) w), ← o.next, p));
           }
-
-  pub looks_above : (base + parts m ≡ a + blocks_up (depth m) m) × (16 * (base + parts m) ≤ length w) × (base + parts m ≤ 16777216)
-  looks_above = (o.low.total, o.low.room, omega (arith, o.low.room, o.few))
 
   module _ (h : m ≤ i) where
     all : take i (ends_at rules f ps) ≡ ends_at rules f ps

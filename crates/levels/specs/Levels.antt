@@ -1,14 +1,12 @@
 -- What the inner functions say of the words: whether the blocks of a tree stand from a block on, or those of a level. (The promise of `verify::tree_is` cites none of this, but `same` and the blocks of a tree that `blocks` defines.)
 -- Assumes nothing: these are definitions.
-use Rattle.std.specs.Prelude.{◌≡◌, Bool, true, false, List, [], ◌∷◌, ℕ, ◌+◌, ◌*◌, ◌≤◌, ◌<◌, length, get_or, drop}
+use Rattle.std.specs.Prelude.{◌≡◌, Bool, true, false, List, [], ◌∷◌, ℕ, ◌+◌, ◌*◌, ◌≤◌, ◌<◌, length, get_or, drop, Option, Some, None}
 use Rattle.model.specs.Rules.{Tree, ends}
 use Rattle.rows.specs.Rows.{field_at, tree_at}
 use Rattle.blocks.specs.Blocks.{parts, blocks_up, links_to, lay, depth, blocks, entry, tree_blocks}
 use Rattle.blocks.specs.Written.{end_place, link_place, padded, Level, Under}
-use Rattle.levels.specs.declared.Ends.{Ends}
-use Rattle.levels.specs.declared.Ends.TheVariants.{At, Differ}
-use Rattle.levels.specs.declared.Told.{Told}
-use Rattle.levels.specs.declared.Told.TheVariants.{Same, Differs}
+use Rattle.blocks.specs.declared.Chain.{Chain}
+use Rattle.levels.specs.declared.Found.{Found}
 
 -- the blocks of a tree stand in the words from block a on
 abbrev pub Stands : List ℕ → ℕ → Tree ℕ → Type 0
@@ -21,9 +19,10 @@ pub record Stood (w : List ℕ) (a : ℕ) (t : Tree ℕ) (past to : ℕ) : Type 
   pub fits : 16 * past ≤ length w
   pub is : Stands w a t
 
-abbrev pub Tells : Told → List ℕ → ℕ → Tree ℕ → Type 0
-Tells (Same past to) w a t = Stood w a t past to
-Tells Differs w a t = Stands w a t → ⊥
+-- what is found where they stand; and nothing where they do not
+abbrev pub Tells : Option Found → List ℕ → ℕ → Tree ℕ → Type 0
+Tells (Some found) w a t = Stood w a t found.past found.to
+Tells None w a t = Stands w a t → ⊥
 
 -- the answer is yes exactly where p holds
 abbrev pub Answers : Bool → Type 0 → Type 0
@@ -55,6 +54,7 @@ pub record One (w : List ℕ) (a e : ℕ) : Type 0 where
   pub room : 16 * (a + 1) ≤ length w
   pub stand : EndsStand w a 1 (e ∷ []) 1
 
-abbrev pub TellsEnds : Ends → List ℕ → List ℕ → ℕ → List ℕ → ℕ → Type 0
-TellsEnds (At m base) w rules f ps a = Low w rules f ps a m base
-TellsEnds Differ w rules f ps a = (left : ℕ) → (left ≡ 0 → ⊥) → Stands w a (tree_at rules f left ps) → ⊥
+-- the chain that begins at block a, where its lowest level stands; and nothing where no tree of these rules can stand
+abbrev pub TellsEnds : Option Chain → List ℕ → List ℕ → ℕ → List ℕ → ℕ → Type 0
+TellsEnds (Some h) w rules f ps a = (h.root ≡ a) × Low w rules f ps a h.ends h.lowest.first
+TellsEnds None w rules f ps a = (left : ℕ) → (left ≡ 0 → ⊥) → Stands w a (tree_at rules f left ps) → ⊥

@@ -9,16 +9,17 @@ use borrow.Author.Tests.{ltb-false}
 use lib.Dec.{ltb, eqb}
 use lib.ListN.{length}
 use Rattle.octets.specs.declared.Order.{Order}
-use Rattle.capture.specs.declared.Next.TheVariants.{Edge, Cut, TooLong, Data}
+use Rattle.std.specs.Prelude.{Ok, Err}
+use Rattle.capture.specs.declared.End.TheVariants.{Edge, Cut, TooLong}
 use Rattle.octets.specs.Octets.{word}
 use Rattle.capture.specs.Pcap.{next_of}
 
 -- a record header that leads to data says no more
-pub data_small : (o : Order) (s : List ℕ) (n : ℕ) → Data n ≡ next_of o s → n ≤ 16384
+pub data_small : (o : Order) (s : List ℕ) (n : ℕ) → Ok n ≡ next_of o s → n ≤ 16384
 unfolding next_of
 data_small o s n e = go (eqb (length s) 0) (ltb (length s) 16) (ltb 16384 (word o s 8)) refl e
   where
-    go : (a b d : Bool) → ltb 16384 (word o s 8) ≡ d → Data n ≡ cond a Edge (cond b Cut (cond d TooLong (Data (word o s 8)))) → n ≤ 16384
+    go : (a b d : Bool) → ltb 16384 (word o s 8) ≡ d → Ok n ≡ cond a (Err Edge) (cond b (Err Cut) (cond d (Err TooLong) (Ok (word o s 8)))) → n ≤ 16384
     go true b d p e = let z : ◌≡◌ {A = ℕ} 0 1 = cc in absurd (omega arith)
     go false true d p e = let z : ◌≡◌ {A = ℕ} 0 1 = cc in absurd (omega arith)
     go false false true p e = let z : ◌≡◌ {A = ℕ} 0 1 = cc in absurd (omega arith)

@@ -5,6 +5,7 @@ use mathlib.Core.Bool.{true}
 use mathlib.Core.List.{List, [], ◌∷◌, ◌++◌}
 use Prim.Native.Nat.{ℕ, suc, ◌+◌, ◌-◌, ◌*◌, ◌≤◌, ◌<◌}
 use native.Mathlib.Omega.{arith}
+use native.Mathlib.Numerals.{add-one}
 use lib.Dec.{ltb}
 use lib.ListN.{length, get_or, take, drop, take-append-drop, length-drop}
 use lib.Seq.{drop_at, take_all, length-take-le}
@@ -115,19 +116,22 @@ pub record Still (k : Kind) (c : ℕ) (es : List Edit) (ws : List ℕ) (last : T
   pub fronts : Fronts k c table es ws
   pub comes : edited_all table es ≡ last
 
-module _ (k : Kind) (c s count p i : ℕ) (xs ws : List ℕ) (last : Table) where
+module _ (k : Kind) (c s count p : ℕ) (xs ws : List ℕ) (last : Table) where
   -- the next one of them
-  pub still_next : p < count → Still k c (edits_from (length k.tops) s (count - p) xs i) ws last → Still k c (edit_in (length k.tops) xs i ∷ edits_from (length k.tops) s (count - (p + 1)) xs (i + s)) ws last
-  still_next h w = let z : count - p ≡ suc (count - (p + 1)) = omega arith in rw z at w
+  pub still_next : p < count → Still k c (edits_from (length k.tops) s (count - p) xs (s * p)) ws last → Still k c (edit_in (length k.tops) xs (s * p) ∷ edits_from (length k.tops) s (count - (p + 1)) xs (s * (p + 1))) ws last
+  still_next h w =
+      let z : count - p ≡ suc (count - (p + 1)) = omega arith in
+      let y : s * p + s ≡ s * (p + 1) = rw (add-one p) (omega arith) in
+      rw (z, y) at w
 
-  pub still_end : count ≤ p → Still k c (edits_from (length k.tops) s (count - p) xs i) ws last → ws ≡ front_text k c last
+  pub still_end : count ≤ p → Still k c (edits_from (length k.tops) s (count - p) xs (s * p)) ws last → ws ≡ front_text k c last
   still_end h w = let z : count - p ≡ 0 = omega arith in let y = rw z at w in y.fronts.text ∙ ap (front_text k c) y.comes
 
 pub still_on : (k : Kind) (c : ℕ) (e : Edit) (es : List Edit) (ws new : List ℕ) (last : Table) (w : Still k c (e ∷ es) ws last) → Fronts k c (edited w.table e) es new → Still k c es new last
 still_on k c e es ws new last w f = record { table = edited w.table e; fronts = f; comes = w.comes }
 
-pub still_first : (k : Kind) (c s count : ℕ) (xs ws : List ℕ) (t : Table) → Fronts k c t (edits_from (length k.tops) s count xs 0) ws → Still k c (edits_from (length k.tops) s (count - 0) xs 0) ws (edited_all t (edits_from (length k.tops) s count xs 0))
-still_first k c s count xs ws t f = let z : count - 0 ≡ count = omega arith in rw z (record { table = t; fronts = f; comes = refl })
+pub still_first : (k : Kind) (c s count : ℕ) (xs ws : List ℕ) (t : Table) → Fronts k c t (edits_from (length k.tops) s count xs 0) ws → Still k c (edits_from (length k.tops) s (count - 0) xs (s * 0)) ws (edited_all t (edits_from (length k.tops) s count xs 0))
+still_first k c s count xs ws t f = let z : count - 0 ≡ count = omega arith in let y : s * 0 ≡ 0 = omega arith in rw (z, y) (record { table = t; fronts = f; comes = refl })
 
 -- the number of rules, where more words stand behind the front
 pub count_before : (k : Kind) (c : ℕ) (t : Table) (front behind : List ℕ) → front ≡ front_text k c t → get_or (front ++ behind) 1 0 ≡ length t.rules

@@ -2,13 +2,14 @@
 #![tactic(auto)]
 
 ghost use Rattle.std.specs.Prelude.{◌≡◌, List, ◌∷◌, ℕ, suc, ◌+◌, ◌*◌, ◌≤◌, length};
-ghost use Rattle.model.specs.Table.{Shaped, Table};
+ghost use Rattle.model.specs.Table.{Table};
 ghost use Rattle.rows.specs.Rows.{Scratch};
 ghost use Rattle.table.specs.Rows.{kind_of};
 ghost use Rattle.layout.specs.Inner.{front_text};
 ghost use Rattle.series.specs.Edits.{Edit, edited, edited_all, edit_in, edits_from, list_says};
 ghost use Rattle.lists.specs.Inner.{Fronts, Fronted};
 
+use refusal::Refusal;
 use series::Listed;
 use table::Shape;
 
@@ -17,42 +18,31 @@ pub fn decide(
     words: &[u32],
     edits: &[u32],
     count: usize,
-    tops: &[u32],
-    shape: Shape,
+    shape: &Shape,
     set: &mut [u16],
     sets: &mut [u16],
     ends: &mut [u32],
 ) -> Listed
-    requires { Shaped (kind_of tops.now shape) × (suc shape.most ≤ length set.old) × Scratch (suc shape.most) (length tops.now) sets.old ends.old }
-    ensures { result ≡ list_says (kind_of tops.now shape) words.now (edits_from (length tops.now) (shape.width + 1) count edits.now 0) }
+    requires { (suc shape.now.most ≤ length set.old) × Scratch (suc shape.now.most) (length shape.now.tops.now) sets.old ends.old }
+    ensures { result ≡ list_says (kind_of shape.now) words.now (edits_from (length shape.now.tops.now) (shape.now.width + 1) count edits.now 0) }
 {
     if count == 0 {
-        return Listed {
-            answer: 15,
-            place: 0,
-        };
+        return Listed::of(Err(Refusal::ListLength), 0);
     }
     if 32 < count {
-        return Listed {
-            answer: 15,
-            place: 0,
-        };
+        return Listed::of(Err(Refusal::ListLength), 0);
     }
-    if !audit::check(words, tops, shape, sets, ends) {
-        return Listed {
-            answer: 9,
-            place: 1,
-        };
+    if !audit::check(words, shape, sets, ends) {
+        return Listed::of(Err(Refusal::Damaged), 1);
     }
     let head = shape.head as usize;
-    let from = table::rows_end(shape) as usize;
+    let from = shape.rows_end() as usize;
     series::first_refusal(
         &words[head..from],
         words[1],
         words[0],
         edits,
         count as u32,
-        tops,
         shape,
         set,
         sets,
@@ -61,33 +51,29 @@ pub fn decide(
 }
 
 // Does the edit that begins at a word of the list in the front of a store, its head and its rows.
-fn apply(front: &mut [u32], edits: &[u32], at: usize, tops: &[u32], shape: Shape)
-    requires { Shaped (kind_of tops.now shape) × (at + (3 + 2 * length tops.now) ≤ length edits.now) × ((rest : List Edit) × Fronted (kind_of tops.now shape) (edit_in (length tops.now) edits.now at ∷ rest) front.old) }
-    ensures { (c : ℕ) (t : Table) (rest : List Edit) → Fronts (kind_of tops.now shape) c t (edit_in (length tops.now) edits.now at ∷ rest) front.old → Fronts (kind_of tops.now shape) c (edited t (edit_in (length tops.now) edits.now at)) rest front.new }
+fn apply(front: &mut [u32], edits: &[u32], at: usize, shape: &Shape)
+    requires { (at + (3 + 2 * length shape.now.tops.now) ≤ length edits.now) × ((rest : List Edit) × Fronted (kind_of shape.now) (edit_in (length shape.now.tops.now) edits.now at ∷ rest) front.old) }
+    ensures { (c : ℕ) (t : Table) (rest : List Edit) → Fronts (kind_of shape.now) c t (edit_in (length shape.now.tops.now) edits.now at ∷ rest) front.old → Fronts (kind_of shape.now) c (edited t (edit_in (length shape.now.tops.now) edits.now at)) rest front.new }
 {
     let head = shape.head as usize;
     let row = at + 1;
-    let end = row + (2 + 2 * tops.len());
+    let end = row + (2 + 2 * shape.tops.len());
     let n = front[1];
-    let place = table::before(&front[head..], n, tops, shape, edits[row]);
+    let place = table::before(&front[head..], n, shape, edits[row]);
     if edits[at] == 0 {
-        front::put_rule(front, n, place, &edits[row..end], tops, shape);
+        front::put_rule(front, n, place, &edits[row..end], shape);
         return;
     }
-    front::take_rule(front, n, place, tops, shape);
+    front::take_rule(front, n, place, shape);
 }
 
 // Does the first edits of a list in the front of a store, as many as count says.
-pub fn apply_all(front: &mut [u32], edits: &[u32], count: u32, tops: &[u32], shape: Shape)
-    requires { Shaped (kind_of tops.now shape) × (count ≤ 32) × ((shape.width + 1) * count ≤ length edits.now) × Fronted (kind_of tops.now shape) (edits_from (length tops.now) (shape.width + 1) count edits.now 0) front.old }
-    ensures { (c : ℕ) (t : Table) → Fronts (kind_of tops.now shape) c t (edits_from (length tops.now) (shape.width + 1) count edits.now 0) front.old → front.new ≡ front_text (kind_of tops.now shape) c (edited_all t (edits_from (length tops.now) (shape.width + 1) count edits.now 0)) }
+pub fn apply_all(front: &mut [u32], edits: &[u32], count: u32, shape: &Shape)
+    requires { (count ≤ 32) × ((shape.now.width + 1) * count ≤ length edits.now) × Fronted (kind_of shape.now) (edits_from (length shape.now.tops.now) (shape.now.width + 1) count edits.now 0) front.old }
+    ensures { (c : ℕ) (t : Table) → Fronts (kind_of shape.now) c t (edits_from (length shape.now.tops.now) (shape.now.width + 1) count edits.now 0) front.old → front.new ≡ front_text (kind_of shape.now) c (edited_all t (edits_from (length shape.now.tops.now) (shape.now.width + 1) count edits.now 0)) }
 {
-    let stride = (shape.width as usize) + 1;
-    let mut at: usize = 0;
-    let mut i: u32 = 0;
-    while i < count {
-        apply(front, edits, at, tops, shape);
-        at += stride;
-        i += 1;
+    let stride = shape.width as usize + 1;
+    for i in 0..count {
+        apply(front, edits, stride * (i as usize), shape);
     }
 }

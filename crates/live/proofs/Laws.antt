@@ -1,23 +1,26 @@
 -- The place of a number that stands, and what the search over the words of a store that passes says of its table.
 -- Assumes nothing.
 use mathlib.Core.Path.{◌≡◌, refl, sym, ap, ◌∙◌}
-use mathlib.Core.Bool.{Bool, true, false}
+use mathlib.Core.Bool.{Bool, true, false, not}
+use Rattle.std.specs.Prelude.{Ok, Err}
+use Rattle.refusal.specs.declared.Refusal.{Refusal}
+use Rattle.refusal.specs.Refusals.{number_of}
+use Rattle.refusal.proofs.Numbers.{refuses}
 use mathlib.Core.List.{List}
-use Prim.Native.Nat.{ℕ, zero, suc, ◌+◌, ◌-◌, ◌*◌, ◌≤◌, ◌<◌}
+use Prim.Native.Nat.{ℕ, zero, suc, ◌+◌, ◌*◌, ◌≤◌, ◌<◌}
 use native.Mathlib.Omega.{arith}
 use native.Mathlib.Numerals.{add-one}
 use lib.Dec.{ltb, eqb}
-use lib.ListN.{length, get_or, take, drop}
+use lib.ListN.{length, get_or}
 use borrow.Author.Tests.{ltb-true, ltb-false, eqb-true, eqb-false, eq-eqb, ne_eqb}
-use Rattle.model.specs.Table.{Kind, Table, Shaped, row_words, rising_from, stands, tree_of}
+use Rattle.model.specs.Table.{Kind, Table, Shaped, rising_from, stands, tree_of}
 use Rattle.model.proofs.Tests.{by_test}
 use Rattle.model.proofs.Keep.{in_get_d}
 use Rattle.model.proofs.Grid.{row_ends}
 use Rattle.model.proofs.Limits.{in_rising, rising_places}
 use Rattle.table.specs.Rows.{placed, no_rule, ahead}
 use Rattle.table.proofs.Edits.{at_stands}
-use Rattle.layout.specs.Store.{cells_in, table_of, passes, read_says}
-use Rattle.layout.proofs.Parts.{part_slice}
+use Rattle.layout.specs.Store.{cells_in, part_of, table_of, passes, read_says}
 use Rattle.layout.proofs.Sound.{sound, Roomy}
 use Rattle.layout.proofs.Passed.{sound_within, sound_room}
 use Rattle.search.specs.Search.{most, wins, first_won}
@@ -28,7 +31,7 @@ use Rattle.search.specs.Links.{tree_in, is_place, record_in}
 use Rattle.reach.specs.Reach.{Reached}
 use Rattle.reach.proofs.Steps.{most_one}
 use Rattle.tied.proofs.Places.{ties}
-use Rattle.live.specs.Live.{life, life_of, Standing, row_of, place_of}
+use Rattle.live.specs.Live.{life, fate, life_of, Standing, row_of, place_of}
 
 -- an answer 0 of a reading: the number stands
 pub standing : (k : Kind) (ws : List ℕ) (n : ℕ) → read_says k ws n ≡ 0 → Standing k ws n
@@ -108,37 +111,37 @@ module _ (k : Kind) (s : Shaped k) (ws : List ℕ) (n : ℕ) (f : Standing k ws 
   pub room : Roomy k (cells_in ws) ws
   room = sound_room k s ws (sound k s ws f.pass)
 
-  -- WHAT THE CODE FINDS, over the part as it takes it: E is its end of the rows, p the place, r whether a walk finds it
-  module _ (E : ℕ) (g : E ≡ k.head + row_words k) (p : ℕ) (q : p ≡ place_of k ws n) where
-    -- the part
-    abbrev P : List ℕ
-    P = take (E + (2 + 8 * cells_in ws) - E) (drop E ws)
-
+  -- WHAT THE CODE FINDS, over the part P of the words: p is the place, r whether a walk finds it
+  module _ (P : List ℕ) (g : P ≡ part_of k (cells_in ws) ws) (p : ℕ) (q : p ≡ place_of k ws n) where
     most_is : most 0 (is_place p) (tree_in P (cells_in ws) (length k.tops) (get_or P 1 0)) ≡ most 0 (wins n) (tree_of k (table_of k ws))
-    most_is = rw (part_slice k ws E g (cells_in ws), q) (ties.found k s ws f.pass (place_of k ws n) (wins n) same)
+    most_is = rw (g, q) (ties.found k s ws f.pass (place_of k ws n) (wins n) same)
 
     first_is : record_in p P (cells_in ws) (length k.tops) (get_or P 1 0) ≡ first_won k (table_of k ws) n
-    first_is = rw (part_slice k ws E g (cells_in ws), q) (ties.written k s ws f.pass (place_of k ws n) (wins n) same)
+    first_is = rw (g, q) (ties.written k s ws f.pass (place_of k ws n) (wins n) same)
 
-    module _ (r : Bool) (none out : List ℕ) (h : Reached p P (cells_in ws) (length k.tops) (get_or P 1 0) r none out) (a : ℕ) (o : a ≡ 0) (e : read_says k ws n ≡ 0) where
+    module _ (r : Bool) (none out : List ℕ) (h : Reached p P (cells_in ws) (length k.tops) (get_or P 1 0) r none out) (e : read_says k ws n ≡ 0) where
       -- it is live, and its record is written
-      pub says_live : ((i : ℕ) → get_or k.tops i 0 ≤ 4294967295) → r ≡ true → life a 0 out ≡ life_of k ws n none
+      says_live : ((i : ℕ) → get_or k.tops i 0 ≤ 4294967295) → r ≡ true → life 0 0 out ≡ life_of k ws n none
       unfolding life_of
       says_live small t =
           let m : most 0 (wins n) (tree_of k (table_of k ws)) ≡ 1 = sym most_is ∙ eqb-true _ 1 (sym h.found ∙ t) in
           let v = first_fits 0 (wins n) (topped_of k (table_of k ws) (sound_within k s ws (sound k s ws f.pass))) in
-          rw (e, m, o) (ap (life 0 0) (h.written ∙ rw (t, first_is) (cut_fits k.tops (first_won k (table_of k ws) n) small v)))
+          rw (e, m) (ap (life 0 0) (h.written ∙ rw (t, first_is) (cut_fits k.tops (first_won k (table_of k ws) n) small v)))
 
       -- it is dead, and nothing is
-      pub says_dead : r ≡ false → life a 1 out ≡ life_of k ws n none
+      says_dead : r ≡ false → life 0 1 out ≡ life_of k ws n none
       unfolding life_of
       says_dead t =
           let T = tree_in P (cells_in ws) (length k.tops) (get_or P 1 0) in
           let y = eqb-false (most 0 (is_place p) T) 1 (sym h.found ∙ t) in
           let m : most 0 (wins n) (tree_of k (table_of k ws)) ≡ 0 = sym most_is ∙ omega (arith, y, most_one p T) in
-          rw (e, m, o) (ap (life 0 1) (h.written ∙ rw t))
+          rw (e, m) (ap (life 0 1) (h.written ∙ rw t))
+
+      -- it is dead where no walk finds it
+      pub says_fate : ((i : ℕ) → get_or k.tops i 0 ≤ 4294967295) → fate (Ok (not r)) out ≡ life_of k ws n none
+      says_fate small = by_test r (λ t. rw t (says_live small t)) (λ t. rw t (says_dead t))
 
 -- a refusal
-pub says_refused : (k : Kind) (ws : List ℕ) (n : ℕ) (a : ℕ) → a ≡ read_says k ws n → (a ≡ 0 → ⊥) → (none : List ℕ) → life a 0 none ≡ life_of k ws n none
+pub says_refused : (k : Kind) (ws : List ℕ) (n : ℕ) (r : Refusal) → number_of r ≡ read_says k ws n → (none : List ℕ) → fate (Err r) none ≡ life_of k ws n none
 unfolding life_of
-says_refused k ws n a e z none = rw (ne_eqb (read_says k ws n) 0 (λ y. z (e ∙ y))) (ap (λ x. life x 0 none) e)
+says_refused k ws n r e none = rw (ne_eqb (read_says k ws n) 0 (λ y. refuses r (e ∙ y))) (ap (λ x. life x 0 none) e)

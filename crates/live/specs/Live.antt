@@ -1,7 +1,10 @@
 -- What is said of a rule that may never win, for any words.
 -- Assumes nothing: these are definitions.
-use Rattle.std.specs.Prelude.{◌≡◌, ◌≢◌, true, cond, List, map, ℕ, ◌+◌, ◌*◌, eqb}
+use Rattle.std.specs.Prelude.{◌≡◌, ◌≢◌, Bool, true, false, cond, Result, List, map, ℕ, ◌+◌, ◌*◌, eqb}
+use Rattle.std.specs.Result.{result_unwrap_or}
 use Rattle.model.specs.Table.{Kind, stands}
+use Rattle.refusal.specs.declared.Refusal.{Refusal}
+use Rattle.refusal.specs.Refusals.{answer_of}
 use Rattle.table.specs.Rows.{ahead}
 use Rattle.layout.specs.Store.{table_of, passes, read_says}
 use Rattle.search.specs.Search.{dead_of, first_won}
@@ -10,6 +13,10 @@ use Rattle.live.specs.declared.Life.{Life}
 -- an answer, whether the rule is dead, and a record of values
 abbrev pub life : ℕ → ℕ → List ℕ → Life
 life a d vs = record { answer = a; dead = d; value = vs }
+
+-- what C is told where a search says whether the rule is dead, or why it did not look, and lent words then hold a record
+abbrev pub fate : Result Bool Refusal → List ℕ → Life
+fate r vs = life (answer_of r) (cond (result_unwrap_or r false) 1 0) vs
 
 -- "Refusals: 9, 1, 4 as in reading, with the default under 65,535". Else 1 where the rule is dead; or 0 and the least record that makes it the winner. In place of a record that is not there stands `none`.
 unfoldable pub life_of : Kind → List ℕ → ℕ → List ℕ → Life

@@ -1,8 +1,7 @@
 -- The steps of a walk, as the code takes them: what the definitions say at each way on, and that a field reads no more cells than it may.
 -- Assumes nothing.
 use mathlib.Core.Path.{◌≡◌, refl, sym, ap, ◌∙◌}
-use mathlib.Core.Bool.{Bool, true, false, cond, not}
-use mathlib.Core.Logic.{◌≢◌}
+use mathlib.Core.Bool.{Bool, true, false, cond}
 use mathlib.Core.List.{List}
 use Prim.Native.Nat.{ℕ, zero, suc, ◌+◌, ◌-◌, ◌*◌, ◌≤◌, ◌<◌}
 use native.Mathlib.Omega.{arith}
@@ -11,27 +10,26 @@ use native.Mathlib.Numerals.{add-one}
 use lib.Dec.{ltb, leb, eqb}
 use lib.ListN.{length, get_or, take, drop, drop_of_length-le}
 use lib.Seq.{drop-cons}
-use borrow.Author.Tests.{lt-ltb, le-ltb, le-leb, lt-leb, leb-true, eq-eqb, ne_eqb, not-true, not-false}
+use borrow.Author.Tests.{lt-ltb, le-ltb, le-leb, lt-leb, leb-true, eq-eqb, ne_eqb}
 use Rattle.model.specs.Table.{Kind, Shaped, row_words, packet_right}
 use Rattle.model.proofs.Tests.{by_test, and_left}
 use Rattle.header.specs.declared.Packet.{Packet}
-use Rattle.header.specs.declared.Header.{Header}
-use Rattle.header.specs.declared.Header.TheVariants.{Values, Unreadable, Cut}
-use Rattle.header.specs.Header.{header_of, answer_of}
+use Rattle.header.specs.Header.{header_of}
+use Rattle.std.specs.Prelude.{Option, Some, None, Result}
+use Rattle.refusal.specs.declared.Refusal.{Refusal}
 use Rattle.cells.specs.Text.{cell_word}
 use Rattle.lookup.specs.declared.Walked.{Walked}
-use Rattle.lookup.specs.declared.Walked.TheVariants.{At, Lost}
 use Rattle.layout.specs.Store.{size, cells_in}
-use Rattle.lookup.specs.Walk.{seek_of, on_from, through_of, walk_of, refused, part_in, begins, found_in, lookup_in, lookup_values, lookup_header, lookup_packet}
+use Rattle.lookup.specs.Walk.{Field, led_to, seek_of, on_from, through, walk_of, refused, part_in, begins, found_in, lookup_in, lookup_values, lookup_header, lookup_packet}
 
 module _ (w : List ℕ) (c v : ℕ) where
   -- one cell of a field, where m more may be read
-  pub seek_lost : (m k r : ℕ) → c ≤ k → seek_of w c v m k r ≡ Lost
+  pub seek_lost : (m k r : ℕ) → c ≤ k → seek_of w c v m k r ≡ None
   unfolding seek_of
   seek_lost zero k r h = refl
   seek_lost (suc m) k r h = simp (le-ltb k c h)
 
-  pub seek_here : (m k r : ℕ) → 0 < m → k < c → v ≤ get_or w (2 + 8 * k) 0 → seek_of w c v m k r ≡ At (cell_word w k 2) (r + 1)
+  pub seek_here : (m k r : ℕ) → 0 < m → k < c → v ≤ get_or w (2 + 8 * k) 0 → seek_of w c v m k r ≡ led_to (cell_word w k 2) (r + 1)
   unfolding seek_of
   seek_here zero k r q h e = absurd (omega arith)
   seek_here (suc m) k r q h e = rw (lt-ltb k c h, add-zero, le-ltb _ v e)
@@ -40,43 +38,39 @@ module _ (w : List ℕ) (c v : ℕ) where
   unfolding seek_of
   seek_next m n k r q h e = rw (q, lt-ltb k c h, add-zero, lt-ltb _ v e)
 
-  pub seek_spent : (m k r : ℕ) → m ≡ 0 → seek_of w c v m k r ≡ Lost
+  pub seek_spent : (m k r : ℕ) → m ≡ 0 → seek_of w c v m k r ≡ None
   unfolding seek_of
   seek_spent m k r e = rw e
 
   -- a field reads at most as many cells as it may
-  few : (m k r d n : ℕ) → seek_of w c v m k r ≡ At d n → n ≤ r + m
+  few : (m k r : ℕ) (l : Walked) → seek_of w c v m k r ≡ Some l → l.reads ≤ r + m
   unfolding seek_of
-  few zero k r d n e = let z : ◌≡◌ {A = ℕ} 0 1 = cc in absurd (omega arith)
-  few (suc m) k r d n e = go (few m (cell_word w k 1) (r + 1) d n) (ltb k c) (ltb (cell_word w k 0) v) e
+  few zero k r l e = absurd (cc)
+  few (suc m) k r l e = go (few m (cell_word w k 1) (r + 1) l) (ltb k c) (ltb (cell_word w k 0) v) e
     where
-      go : {s : Walked} → (s ≡ At d n → n ≤ r + 1 + m) → (b b' : Bool) → cond b (cond b' s (At (cell_word w k 2) (r + 1))) Lost ≡ At d n → n ≤ r + suc m
+      go : {s : Option Walked} → (s ≡ Some l → l.reads ≤ r + 1 + m) → (b b' : Bool) → cond b (cond b' s (led_to (cell_word w k 2) (r + 1))) None ≡ Some l → l.reads ≤ r + suc m
       go ih true true e = omega (arith, ih e)
-      go ih true false e = let z : r + 1 ≡ n = cc in omega arith
-      go ih false b' e = let z : ◌≡◌ {A = ℕ} 0 1 = cc in absurd (omega arith)
+      go ih true false e = let z : record { place = cell_word w k 2; reads = r + 1 } ≡ l = cc in omega (arith, ap (λ (x : Walked). x.reads) z)
+      go ih false b' e = absurd (cc)
 
-  pub seek_few : (m k d n : ℕ) → At d n ≡ seek_of w c v m k 0 → n ≤ m
-  seek_few m k d n e = omega (arith, few m k 0 d n (sym e))
+  pub seek_few : (m k : ℕ) (l : Walked) → Some l ≡ seek_of w c v m k 0 → l.reads ≤ m
+  seek_few m k l e = omega (arith, few m k 0 l (sym e))
 
--- the fields from i on
-module _ (w : List ℕ) (c : ℕ) (vs : List ℕ) (i k r : ℕ) where
-  field : i < length vs → through_of w c (drop i vs) k r ≡ on_from (λ d n. through_of w c (drop (i + 1) vs) d (r + n)) (seek_of w c (get_or vs i 0) c k 0)
-  unfolding through_of
+-- the fields from i on, by what the walk of one field comes to
+module _ (f : Field) (vs : List ℕ) (i k r : ℕ) where
+  field : i < length vs → through f (drop i vs) k r ≡ on_from (λ d n. through f (drop (i + 1) vs) d (r + n)) (f k (get_or vs i 0))
+  unfolding through
   field h = rw (add-one, drop-cons vs i 0 h)
 
-  pub field_at : (d n : ℕ) → i < length vs → At d n ≡ seek_of w c (get_or vs i 0) c k 0 → through_of w c (drop i vs) k r ≡ through_of w c (drop (i + 1) vs) d (r + n)
-  field_at d n h e = field h ∙ rw (← e)
+  pub field_led : (l : Walked) → i < length vs → Some l ≡ f k (get_or vs i 0) → through f (drop i vs) k r ≡ through f (drop (i + 1) vs) l.place (r + l.reads)
+  field_led l h e = field h ∙ rw (← e)
 
-  pub field_lost : i < length vs → Lost ≡ seek_of w c (get_or vs i 0) c k 0 → through_of w c (drop i vs) k r ≡ Lost
+  pub field_lost : i < length vs → None ≡ f k (get_or vs i 0) → through f (drop i vs) k r ≡ None
   field_lost h e = field h ∙ rw (← e)
 
-  pub field_none : length vs ≤ i → through_of w c (drop i vs) k r ≡ At k r
-  unfolding through_of
+  pub field_none : length vs ≤ i → through f (drop i vs) k r ≡ led_to k r
+  unfolding through
   field_none h = rw (drop_of_length-le vs {i = i} h)
-
-pub walk_starts : (w : List ℕ) (c : ℕ) (vs : List ℕ) → walk_of w c vs ≡ through_of w c (drop 0 vs) (get_or w 1 0) 0
-unfolding walk_of
-walk_starts w c vs = refl
 
 -- the refusals at once, and what is left, in a store of a kind
 module _ (k : Kind) (w vs : List ℕ) where
@@ -113,21 +107,6 @@ module _ (k : Kind) (w vs : List ℕ) where
 pub part_is : (k : Kind) (w vs : List ℕ) (c from : ℕ) → c ≡ cells_in w → from ≡ k.head + row_words k → walk_of (take (from + (2 + 8 * c) - from) (drop from w)) c vs ≡ walk_of (part_in k w) c vs
 part_is k w vs c from q f = let z : from + (2 + 8 * c) - from ≡ 2 + 8 * cells_in w = omega arith in rw (z, f)
 
--- what the place that a walk came to says
-module _ (k : Kind) (w : List ℕ) (l : Walked) where
-  pub no_place : l ≡ Lost → refused 9 ≡ found_in k w l
-  no_place e = rw e
-
-  module _ (p r : ℕ) (e : l ≡ At p r) (b : Bool) (g : b ≡ begins k (get_or w 1 0) p) where
-    at_place : cond b (record { answer = 0; rule = get_or w (k.head + p) 0; action = get_or w (k.head + p + 1) 0; reads = r }) (refused 9) ≡ found_in k w l
-    at_place = rw (e, g)
-
-    pub past_rules : not b ≡ true → refused 9 ≡ found_in k w l
-    past_rules h = rw (not-true b h) at at_place
-
-    pub rule_at_lem : not b ≡ false → record { answer = 0; rule = get_or w (k.head + p) 0; action = get_or w (k.head + p + 1) 0; reads = r } ≡ found_in k w l
-    rule_at_lem h = rw (not-false b h) at at_place
-
 -- a row that begins at a place begins before the last of them ends
 pub begun : (k : Kind) (n p : ℕ) → begins k n p ≡ true → p ≤ k.width * k.most
 begun k n p h = leb-true p (k.width * k.most) (and_left _ _ h)
@@ -142,18 +121,7 @@ module _ (k : Kind) (w vs : List ℕ) where
   unfolding lookup_values
   right_in e = rw e
 
--- a header that gives no values has a number that is not 0
-pub none_given : (h : Header) → ((p : Packet) → h ≡ Values p → ⊥) → answer_of h ≢ 0
-none_given (Values p) n = absurd (n p refl)
-none_given Unreadable n = λ z. omega (arith, z)
-none_given Cut n = λ z. omega (arith, z)
-
--- a packet, by what its header is
-module _ (w packet : List ℕ) where
-  pub no_values : (h : Header) → h ≡ header_of packet → answer_of h ≢ 0 → refused (answer_of h) ≡ lookup_packet w packet
-  unfolding lookup_packet
-  no_values h e n = sym (simp (ne_eqb (answer_of h) 0 n)) ∙ ap (lookup_header w) e
-
-  pub by_values : (p : Packet) → Values p ≡ header_of packet → lookup_header w (Values p) ≡ lookup_packet w packet
-  unfolding lookup_packet
-  by_values p e = ap (lookup_header w) e
+-- a packet, by what its header gives
+pub by_header : (w packet : List ℕ) (h : Result Packet Refusal) → h ≡ header_of packet → lookup_header w h ≡ lookup_packet w packet
+unfolding lookup_packet
+by_header w packet h e = ap (lookup_header w) e

@@ -1,14 +1,18 @@
 // The lookup of a packet, or of its values, in a store's words, whatever they hold. It changes no word, and reads each cell on its way once.
 #![tactic(auto)]
 
-ghost use Rattle.std.specs.Prelude.{◌≡◌, [], ◌∷◌, ◌+◌, ◌*◌, ◌≤◌, length};
-ghost use Rattle.model.specs.Table.{Shaped, front};
+ghost use Rattle.std.specs.Prelude.{◌≡◌, ◌+◌, ◌*◌, ◌≤◌, ℕ, length};
+ghost use Rattle.std.specs.Option.{ForSome};
+ghost use Rattle.model.specs.Table.{front};
 ghost use Rattle.model.specs.Ipv4.{kind_in};
+ghost use Rattle.refusal.specs.Refusals.{number_of};
+ghost use Rattle.header.specs.Header.{values_in};
 ghost use Rattle.table.specs.Rows.{kind_of};
 ghost use Rattle.layout.specs.Store.{size, cells_in};
-ghost use Rattle.lookup.specs.Walk.{seek_of, walk_of, refused, part_in, found_in, lookup_in, lookup_values, lookup_packet};
+ghost use Rattle.lookup.specs.Walk.{Field, seek_of, through, walk_of, refused, part_in, found_in, lookup_in, lookup_values, lookup_packet};
 
-use header::Header;
+use header::Packet;
+use refusal::Refusal;
 use table::Shape;
 
 // What a lookup answers: 0, the number and the action of the rule that decides, and the cells that were read; or a refusal's number and zeros.
@@ -21,80 +25,88 @@ pub struct Found {
     pub reads: u32,
 }
 
-// Where a walk ends: it is led down to a place, which is a cell of the next field or, behind the last one, the word of the rows at which a rule's row is to begin; or it is lost.
-#[derive(Clone, Copy)]
-pub enum Walked {
-    At { place: u32, reads: u32 },
-    Lost,
+impl Found {
+    // A refusal: its number, and zeros. This is the one place where a refusal becomes an answer.
+    pub fn refused(refusal: Refusal) -> Found
+        ensures { result ≡ refused (number_of refusal) }
+    {
+        Found {
+            answer: refusal.number(),
+            rule: 0,
+            action: 0,
+            reads: 0,
+        }
+    }
 }
 
-// Walks one field: from the first cell along the chain, to the first end that is not below the value, over at most c cells.
-fn seek(part: &[u32], c: u32, first: u32, value: u32) -> Walked
+// Where a walk is led down to, and how many cells it read: the place is a cell of the next field or, behind the last one, the word of the rows at which a rule's row is to begin.
+#[derive(Clone, Copy)]
+pub struct Walked {
+    pub place: u32,
+    pub reads: u32,
+}
+
+// Walks one field: from the first cell along the chain, to the first end that is not below the value, over at most c cells. It may be lost.
+fn seek(part: &[u32], c: u32, first: u32, value: u32) -> Option<Walked>
     requires { (length part.now ≡ 2 + 8 * c) × (c ≤ 65536) }
     ensures { result ≡ seek_of part.now c value c first 0 }
 {
     let mut k = first;
-    let mut reads: u32 = 0;
-    while reads < c {
+    for reads in 0..c {
         if c <= k {
-            return Walked::Lost;
+            return None;
         }
         let at = 2 + 8 * (k as usize);
         if value <= part[at] {
-            return Walked::At {
+            return Some(Walked {
                 place: part[at + 2],
                 reads: reads + 1,
-            };
+            });
         }
         k = part[at + 1];
-        reads += 1;
     }
-    Walked::Lost
+    None
 }
 
-// Walks the part of a store that holds its c cells, one field for each value.
-fn walk(part: &[u32], c: u32, values: &[u32]) -> Walked
+// Walks one field for each value, from a first place on: each field begins where the walk of the one before was led to, and the reads are added up. It is lost where the walk of a field is.
+pub fn through<S: Fn(u32, u32) -> Option<Walked>>(
+    first: u32,
+    values: &[u32],
+    seek: S,
+) -> Option<Walked>
+    requires short { length values.now ≤ 64 }
+    requires called { S.IsAlwaysCallable seek }
+    requires few { (k v : ℕ) (o : _) → S.post seek k v o → ForSome o (λ w. w.reads ≤ 65536) }
+    ensures { (f : Field) → ((k v : ℕ) (o : _) → S.post seek k v o → o ≡ f k v) → result ≡ through f values.now first 0 }
+{
+    let mut place = first;
+    let mut reads: u32 = 0;
+    for value in values {
+        let field = seek(place, *value)?;
+        place = field.place;
+        reads += field.reads;
+    }
+    Some(Walked { place, reads })
+}
+
+// Walks the part of a store that holds its c cells, one field for each value. It may be lost.
+fn walk(part: &[u32], c: u32, values: &[u32]) -> Option<Walked>
     requires { (length part.now ≡ 2 + 8 * c) × (c ≤ 65536) × (length values.now ≤ 64) }
     ensures { result ≡ walk_of part.now c values.now }
 {
-    let mut k = part[1];
-    let mut reads: u32 = 0;
-    let mut i: usize = 0;
-    while i < values.len() {
-        match seek(part, c, k, values[i]) {
-            Walked::Lost => return Walked::Lost,
-            Walked::At { place, reads: n } => {
-                k = place;
-                reads += n;
-            }
-        }
-        i += 1;
-    }
-    Walked::At { place: k, reads }
+    through(part[1], values, |first, value| seek(part, c, first, value))
 }
 
-// A refusal: its number, and zeros.
-pub fn refuse(answer: u32) -> Found
-    ensures { result ≡ refused answer }
+// The rule of the row that a walk came to: words that lose the walk, or where no rule's row begins there, are damaged.
+pub fn found_in(words: &[u32], walked: Option<Walked>, shape: &Shape) -> Found
+    requires { front (kind_of shape.now) ≤ length words.now }
+    ensures { result ≡ found_in (kind_of shape.now) words.now walked }
 {
-    Found {
-        answer,
-        rule: 0,
-        action: 0,
-        reads: 0,
-    }
-}
-
-// The rule of the row that a walk came to: 9 where the walk is lost, or where no rule's row begins there.
-pub fn found_in(words: &[u32], walked: Walked, tops: &[u32], shape: Shape) -> Found
-    requires { Shaped (kind_of tops.now shape) × (front (kind_of tops.now shape) ≤ length words.now) }
-    ensures { result ≡ found_in (kind_of tops.now shape) words.now walked }
-{
-    let Walked::At { place, reads } = walked else {
-        return refuse(9);
+    let Some(Walked { place, reads }) = walked else {
+        return Found::refused(Refusal::Damaged);
     };
-    if !table::begins(shape, words[1], place) {
-        return refuse(9);
+    if !shape.begins(words[1], place) {
+        return Found::refused(Refusal::Damaged);
     }
     let row = (shape.head as usize) + (place as usize);
     Found {
@@ -106,94 +118,63 @@ pub fn found_in(words: &[u32], walked: Walked, tops: &[u32], shape: Shape) -> Fo
 }
 
 // The rule of the row that the walk of the cells comes to, where the words are enough for their c cells.
-fn decide(words: &[u32], c: u32, values: &[u32], tops: &[u32], shape: Shape) -> Found
-    requires { Shaped (kind_of tops.now shape) × (c ≡ cells_in words.now) × (c ≤ 65536) × (size (kind_of tops.now shape) c ≤ length words.now) × (length values.now ≤ 64) }
-    ensures { result ≡ found_in (kind_of tops.now shape) words.now (walk_of (part_in (kind_of tops.now shape) words.now) c values.now) }
+fn decide(words: &[u32], c: u32, values: &[u32], shape: &Shape) -> Found
+    requires { (c ≡ cells_in words.now) × (c ≤ 65536) × (size (kind_of shape.now) c ≤ length words.now) × (length values.now ≤ 64) }
+    ensures { result ≡ found_in (kind_of shape.now) words.now (walk_of (part_in (kind_of shape.now) words.now) c values.now) }
 {
-    let from = table::rows_end(shape) as usize;
+    let from = shape.rows_end() as usize;
     let end = from + (2 + 8 * (c as usize));
-    found_in(words, walk(&words[from..end], c, values), tops, shape)
+    found_in(words, walk(&words[from..end], c, values), shape)
 }
 
-// The lookup of some values, one for each field, in a store of a kind: 9 at once where the words name another kind, or no number of cells within its limits, or are too few for it.
+// The lookup of some values, one for each field, in a store of a kind: refused at once where the words name another kind, or no number of cells within its limits, or are too few for it.
 #[inline(always)]
-pub fn lookup_in(words: &[u32], values: &[u32], tops: &[u32], shape: Shape) -> Found
-    requires { Shaped (kind_of tops.now shape) × (length values.now ≤ 64) }
-    ensures { result ≡ lookup_in (kind_of tops.now shape) words.now values.now }
+pub fn lookup_in(words: &[u32], values: &[u32], shape: &Shape) -> Found
+    requires { length values.now ≤ 64 }
+    ensures { result ≡ lookup_in (kind_of shape.now) words.now values.now }
 {
     if words.len() < 3 {
-        return refuse(9);
+        return Found::refused(Refusal::Damaged);
     }
     if words[2] != shape.mark {
-        return refuse(9);
+        return Found::refused(Refusal::Damaged);
     }
     let c = words[0];
-    if c < (tops.len() as u32) {
-        return refuse(9);
+    if c < (shape.tops.len() as u32) {
+        return Found::refused(Refusal::Damaged);
     }
     if 65536 < c {
-        return refuse(9);
+        return Found::refused(Refusal::Damaged);
     }
-    if words.len() < (table::rows_end(shape) as usize) + (2 + 8 * (c as usize)) {
-        return refuse(9);
+    if words.len() < (shape.rows_end() as usize) + (2 + 8 * (c as usize)) {
+        return Found::refused(Refusal::Damaged);
     }
-    decide(words, c, values, tops, shape)
+    decide(words, c, values, shape)
 }
 
-// The lookup of a packet's six values, in a store of the kind that word 2 names: 11 where one is above its top. Each kind has a branch of its own, so that the place of the first link does not wait for word 2 to be loaded. Fewer than three words name none, and are refused before, so that word 2 is loaded once.
-pub fn lookup(
-    words: &[u32],
-    destination: u32,
-    source: u32,
-    protocol: u32,
-    destination_port: u32,
-    source_port: u32,
-    portless: u32,
-) -> Found
-    ensures { result ≡ lookup_values (kind_in words.now) words.now (destination ∷ source ∷ protocol ∷ destination_port ∷ source_port ∷ portless ∷ []) }
+// The lookup of a packet's values, in a store of the kind that word 2 names: refused where one is above its top. Each kind has a branch of its own, so that the place of the first link does not wait for word 2 to be loaded. Fewer than three words name none, and are refused before, so that word 2 is loaded once.
+pub fn lookup(words: &[u32], packet: Packet) -> Found
+    ensures { result ≡ lookup_values (kind_in words.now) words.now (values_in packet) }
 {
-    if !ipv4::right(
-        destination,
-        source,
-        protocol,
-        destination_port,
-        source_port,
-        portless,
-    ) {
-        return refuse(11);
+    if !ipv4::right(packet) {
+        return Found::refused(Refusal::ValueTooHigh);
     }
-    let values = [
-        destination,
-        source,
-        protocol,
-        destination_port,
-        source_port,
-        portless,
-    ];
+    let values = packet.values();
     if words.len() < 3 {
-        return refuse(9);
+        return Found::refused(Refusal::Damaged);
     }
     if ipv4::is_large(words) {
-        return lookup_in(words, &values, &ipv4::TOPS, ipv4::shape(true));
+        return lookup_in(words, &values, &ipv4::shape(true));
     }
-    lookup_in(words, &values, &ipv4::TOPS, ipv4::shape(false))
+    lookup_in(words, &values, &ipv4::shape(false))
 }
 
-// The lookup of an IPv4 packet, whose bytes begin at its header: the number of the header's case where it gives no values, and no lookup is begun.
+// The lookup of an IPv4 packet, whose bytes begin at its header: the header's refusal where it gives no values, and no lookup is begun.
 pub fn lookup_packet(words: &[u32], packet: &[u8]) -> Found
     ensures { result ≡ lookup_packet words.now packet.now }
 {
-    let h = header::read_header(packet);
-    let Header::Values(p) = h else {
-        return refuse(header::answer(h));
-    };
-    lookup(
-        words,
-        p.destination,
-        p.source,
-        p.protocol,
-        p.destination_port,
-        p.source_port,
-        p.portless,
-    )
+    match header::read_header(packet) {
+        Ok(values) => lookup(words, values),
+        Err(refusal) => Found::refused(refusal),
+    }
 }

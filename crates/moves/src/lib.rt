@@ -28,15 +28,10 @@ pub fn copy(from: &[u32], start: usize, out: &mut [u32], at: usize, end: usize)
     ensures { Copied from.now start out.old out.new at end }
 {
     let stop = reach(at, end, start, from.len());
-    let mut i = at;
-    while i < stop {
+    for i in at..stop {
         out[i] = from[start + (i - at)];
-        i += 1;
     }
-    while i < end {
-        out[i] = 0;
-        i += 1;
-    }
+    out[stop..end].fill(0);
 }
 
 // Moves the words from a place on up by as many as a row has. The last ones are lost, and the first stay where they were as well.
@@ -44,9 +39,7 @@ fn move_up(rows: &mut [u32], at: usize, width: usize)
     requires { at + width ≤ length rows.old }
     ensures { Raised rows.old rows.new at width }
 {
-    let mut i = rows.len();
-    while at + width < i {
-        i -= 1;
+    for i in (at + width..rows.len()).rev() {
         rows[i] = rows[i - width];
     }
 }
@@ -68,31 +61,27 @@ pub fn take_out(rows: &mut [u32], width: u32, at: u32)
     ensures { rows.new ≡ up_to (length rows.old) (take_word width rows.old at) }
 {
     let w = width as usize;
-    let mut i = at as usize;
-    while i < rows.len() {
+    for i in at as usize..rows.len() {
         rows[i] = table::word(rows, i + w);
-        i += 1;
     }
 }
 
 // Word i of the rows of a table that has the default alone, with its action.
-fn fresh_word(action: u32, tops: &[u32], i: usize, shape: Shape) -> u32
-    ensures { result ≡ fresh_word (kind_of tops.now shape) action i }
+fn fresh_word(action: u32, i: usize, shape: &Shape) -> u32
+    ensures { result ≡ fresh_word (kind_of shape.now) action i }
 {
     if i < (shape.width as usize) {
-        return table::default_word(action, tops, i, shape);
+        return shape.default_word(action, i);
     }
     0
 }
 
 // Writes the rows of a table that has the default alone, with its action.
-pub fn fresh(action: u32, tops: &[u32], shape: Shape, out: &mut [u32])
-    requires { length out.old ≡ row_words (kind_of tops.now shape) }
-    ensures { out.new ≡ rows_text (kind_of tops.now shape) (record { action = action; rules = [] }) }
+pub fn fresh(action: u32, shape: &Shape, out: &mut [u32])
+    requires { length out.old ≡ row_words (kind_of shape.now) }
+    ensures { out.new ≡ rows_text (kind_of shape.now) (record { action = action; rules = [] }) }
 {
-    let mut i: usize = 0;
-    while i < out.len() {
-        out[i] = fresh_word(action, tops, i, shape);
-        i += 1;
+    for i in 0..out.len() {
+        out[i] = fresh_word(action, i, shape);
     }
 }

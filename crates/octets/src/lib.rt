@@ -3,7 +3,6 @@
 
 ghost use Rattle.std.specs.Prelude.{◌≡◌, ◌+◌, ◌<◌, ◌≤◌, length};
 ghost use Rattle.std.proofs.Math.Seq.{paste};
-ghost use Rattle.octets.specs.declared.Order.TheVariants.{Big, Little};
 ghost use Rattle.octets.specs.Octets.{half, word};
 
 // The order of the bytes of a number: the most significant first, or last.
@@ -13,50 +12,28 @@ pub enum Order {
     Little,
 }
 
-// A byte as a wider number.
-pub fn wide(b: u8) -> u32
-    ensures { (result ≡ b) × (result < 256) }
-{
-    b as u32
-}
-
 // The 16-bit number at a place.
 pub fn half_at(order: Order, s: &[u8], at: usize) -> u32
     requires { at + 1 < length s.now }
     ensures { (result ≡ half order s.now at) × (result < 65536) }
 {
-    let first = wide(s[at]);
-    let second = wide(s[at + 1]);
+    let bytes = [s[at], s[at + 1]];
     match order {
-        Order::Big => first * 256 + second,
-        Order::Little => second * 256 + first,
+        Order::Big => u32::from(u16::from_be_bytes(bytes)),
+        Order::Little => u32::from(u16::from_le_bytes(bytes)),
     }
 }
 
-// The 32-bit number at a place.
+// The 32-bit number at a place. Where the order is known, the compiler makes one load of it.
 pub fn word_at(order: Order, s: &[u8], at: usize) -> u32
     requires { at + 3 < length s.now }
     ensures { result ≡ word order s.now at }
 {
+    let bytes = [s[at], s[at + 1], s[at + 2], s[at + 3]];
     match order {
-        Order::Big => big_word(s, at),
-        Order::Little => little_word(s, at),
+        Order::Big => u32::from_be_bytes(bytes),
+        Order::Little => u32::from_le_bytes(bytes),
     }
-}
-
-// The same in one order each: where the order is known, the compiler makes one load of it.
-pub fn big_word(s: &[u8], at: usize) -> u32
-    requires { at + 3 < length s.now }
-    ensures { result ≡ word Big s.now at }
-{
-    half_at(Order::Big, s, at) * 65536 + half_at(Order::Big, s, at + 2)
-}
-
-fn little_word(s: &[u8], at: usize) -> u32
-    requires { at + 3 < length s.now }
-    ensures { result ≡ word Little s.now at }
-{
-    half_at(Order::Little, s, at) + half_at(Order::Little, s, at + 2) * 65536
 }
 
 // Copies all bytes of a slice to a place of another.
@@ -64,9 +41,5 @@ pub fn copy(from: &[u8], to: &mut [u8], at: usize)
     requires { at + length from.now ≤ length to.old }
     ensures { to.new ≡ paste to.old at from.now (length from.now) }
 {
-    let mut i: usize = 0;
-    while i < from.len() {
-        to[at + i] = from[i];
-        i += 1;
-    }
+    to[at..at + from.len()].copy_from_slice(from);
 }

@@ -2,39 +2,32 @@
 #![tactic(auto)]
 
 ghost use Rattle.std.specs.Prelude.{◌≡◌, suc, ◌≤◌, length};
+ghost use Rattle.refusal.specs.Refusals.{answer_of};
 ghost use Rattle.model.specs.Rules.{cells as cells_of_tree};
-ghost use Rattle.model.specs.Table.{Shaped};
 ghost use Rattle.rows.specs.Rows.{tree_at, Scratch};
 ghost use Rattle.table.specs.Rows.{kind_of, places as places_of};
 ghost use Rattle.layout.specs.Store.{rows_of, start_answer, start_words};
 ghost use Rattle.layout.specs.Inner.{Bare, planted};
 
+use refusal::Refusal;
 use table::Shape;
 
 // Plants the tree of the n rules of the rows in a store whose cells are all free.
-pub fn plant(
-    words: &mut [u32],
-    c: u32,
-    n: u32,
-    tops: &[u32],
-    shape: Shape,
-    sets: &mut [u16],
-    ends: &mut [u32],
-)
-    requires { Shaped (kind_of tops.now shape) × Scratch (suc shape.most) (length tops.now) sets.old ends.old × (n ≤ shape.most) × Bare (kind_of tops.now shape) words.old c × (cells_of_tree (tree_at (rows_of (kind_of tops.now shape) words.old) 0 (length tops.now) (places_of shape.width n)) ≤ c) }
-    ensures { words.new ≡ planted (kind_of tops.now shape) c n words.old }
+pub fn plant(words: &mut [u32], c: u32, n: u32, shape: &Shape, sets: &mut [u16], ends: &mut [u32])
+    requires { Scratch (suc shape.now.most) (length shape.now.tops.now) sets.old ends.old × (n ≤ shape.now.most) × Bare (kind_of shape.now) words.old c × (cells_of_tree (tree_at (rows_of (kind_of shape.now) words.old) 0 (length shape.now.tops.now) (places_of shape.now.width n)) ≤ c) }
+    ensures { words.new ≡ planted (kind_of shape.now) c n words.old }
 {
     let head = shape.head as usize;
-    let from = table::rows_end(shape) as usize;
+    let from = shape.rows_end() as usize;
     let end = from + (2 + 8 * (c as usize));
-    table::places(shape.width, n, sets);
+    table::places(shape, n, sets);
     build::build(
         &mut words[head..end],
         from - head,
         c,
         sets,
         (n as usize) + 1,
-        tops.len() as u32,
+        shape.tops.len() as u32,
         ends,
     );
 }
@@ -44,21 +37,20 @@ pub fn start(
     words: &mut [u32],
     c: u32,
     action: u32,
-    tops: &[u32],
-    shape: Shape,
+    shape: &Shape,
     sets: &mut [u16],
     ends: &mut [u32],
-) -> u32
-    requires { Shaped (kind_of tops.now shape) × Scratch (suc shape.most) (length tops.now) sets.old ends.old }
-    ensures { (result ≡ start_answer (kind_of tops.now shape) words.old c) × (words.new ≡ start_words (kind_of tops.now shape) words.old c action) }
+) -> Result<(), Refusal>
+    requires { Scratch (suc shape.now.most) (length shape.now.tops.now) sets.old ends.old }
+    ensures { (answer_of result ≡ start_answer (kind_of shape.now) words.old c) × (words.new ≡ start_words (kind_of shape.now) words.old c action) }
 {
-    if !audit::room_for(words, c, tops, shape) {
-        return 8;
+    if !audit::room_for(words, c, shape) {
+        return Err(Refusal::NoRoom);
     }
-    let from = table::rows_end(shape) as usize;
+    let from = shape.rows_end() as usize;
     let end = from + (2 + 8 * (c as usize));
     cells::clear(&mut words[from..end], c);
-    front::fresh(&mut words[..from], c, action, tops, shape);
-    plant(words, c, 0, tops, shape, sets, ends);
-    0
+    front::fresh(&mut words[..from], c, action, shape);
+    plant(words, c, 0, shape, sets, ends);
+    Ok(())
 }

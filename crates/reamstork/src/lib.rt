@@ -1,12 +1,13 @@
 // The C face of the library, as include/reamstork.h declares it: exported functions and nothing else. Each says, for every input, what it returns and what every lent word then holds.
 #![tactic(auto)]
 
-ghost use Rattle.std.specs.Prelude.{◌≡◌, [], ◌∷◌, map};
+ghost use Rattle.std.specs.Prelude.{◌≡◌, [], ◌∷◌, map, IfOk, IfErr};
+ghost use Rattle.refusal.specs.Refusals.{answer_of};
 ghost use Rattle.model.specs.Table.{start_action};
 ghost use Rattle.model.specs.Ipv4.{large, kind_in};
 ghost use Rattle.ipv4.specs.Rule.{given};
 ghost use Rattle.prefix.specs.Prefix.{range_of};
-ghost use Rattle.layout.specs.Store.{start_answer, start_words, insert_says, insert_words, delete_says, delete_words, read_says, read_gives, place_says, place_gives, cells_says, cells_gives, carry_says, carry_words};
+ghost use Rattle.layout.specs.Store.{start_answer, start_words, insert_says, insert_words, delete_says, delete_words, read_says, read_gives, place_says, place_gives, cells_says, cells_gives, carry_says, carry_words, zero_rule};
 ghost use Rattle.series.specs.Edits.{list_says, list_words};
 ghost use Rattle.gather.specs.Gather.{edit_of};
 ghost use Rattle.lookup.specs.Walk.{lookup_values, lookup_packet};
@@ -22,10 +23,12 @@ ghost use Rattle.reamstork.specs.Face.{rule_of, rule_read, check_says};
 
 use freeze::Size;
 use gather::Edit;
+use header::Packet;
 use ipv4::Rule;
 use live::Life;
 use lookup::Found;
 use prefix::Range;
+use refusal::Refusal;
 use scan::Winner;
 use seek::Count;
 use series::Listed;
@@ -49,7 +52,7 @@ pub struct Reading {
 pub extern "C" fn reamstork_start(words: &mut [u32], c: u32) -> u32
     ensures { (result ≡ start_answer large words.old c) × (words.new ≡ start_words large words.old c start_action) }
 {
-    store::start(words, c, 0)
+    refusal::answer(store::start(words, c, 0))
 }
 
 // Starts a large store of c cells whose default rule has an action.
@@ -57,7 +60,7 @@ pub extern "C" fn reamstork_start(words: &mut [u32], c: u32) -> u32
 pub extern "C" fn reamstork_start_with(words: &mut [u32], c: u32, action: u32) -> u32
     ensures { (result ≡ start_answer large words.old c) × (words.new ≡ start_words large words.old c action) }
 {
-    store::start(words, c, action)
+    refusal::answer(store::start(words, c, action))
 }
 
 // Inserts a rule.
@@ -77,7 +80,7 @@ pub extern "C" fn reamstork_insert(
         low: *low,
         high: *high,
     };
-    store::insert(words, rule)
+    refusal::answer(store::insert(words, rule))
 }
 
 // Deletes the rule of a number.
@@ -85,7 +88,7 @@ pub extern "C" fn reamstork_insert(
 pub extern "C" fn reamstork_delete(words: &mut [u32], number: u32) -> u32
     ensures { (result ≡ delete_says (kind_in words.old) words.old number) × (words.new ≡ delete_words (kind_in words.old) words.old number) }
 {
-    store::delete(words, number)
+    refusal::answer(store::delete(words, number))
 }
 
 // Takes a list of up to 32 edits in order: all of them are done, or none.
@@ -102,18 +105,22 @@ pub extern "C" fn reamstork_edit_list(words: &mut [u32], edits: &[Edit]) -> List
 pub extern "C" fn reamstork_check(words: &[u32]) -> u32
     ensures { result ≡ check_says words.now }
 {
-    if reading::check(words) { 0 } else { 9 }
+    if reading::check(words) {
+        0
+    } else {
+        Refusal::Damaged.number()
+    }
 }
 
-// What was read, for C.
-fn for_c(read: reading::Reading) -> Reading
-    ensures { (result.answer ≡ read.answer) × (rule_read result ≡ given read.rule) }
+// What was read, for C: the rule, or the refusal's number and zeros.
+fn for_c(read: Result<Rule, Refusal>) -> Reading
+    ensures { (result.answer ≡ answer_of read) × IfOk read (λ rule. rule_read result ≡ given rule) × IfErr read (λ refusal. rule_read result ≡ zero_rule large) }
 {
-    let rule = read.rule;
+    let rule = reading::or_zeros(read);
     let low = rule.low;
     let high = rule.high;
     Reading {
-        answer: read.answer,
+        answer: refusal::answer(read),
         number: rule.number,
         action: rule.action,
         low,
@@ -166,7 +173,7 @@ pub extern "C" fn reamstork_worst(words: &[u32]) -> Most
 pub extern "C" fn reamstork_carry(from: &[u32], words: &mut [u32], c: u32) -> u32
     ensures { (result ≡ carry_says (kind_in from.now) large from.now words.old c) × (words.new ≡ carry_words (kind_in from.now) large from.now words.old c) }
 {
-    store::carry(from, words, c)
+    refusal::answer(store::carry(from, words, c))
 }
 
 // Looks six values up.
@@ -184,12 +191,14 @@ pub extern "C" fn reamstork_lookup(
 {
     lookup::lookup(
         words,
-        destination,
-        source,
-        protocol,
-        destination_port,
-        source_port,
-        portless,
+        Packet {
+            destination,
+            source,
+            protocol,
+            destination_port,
+            source_port,
+            portless,
+        },
     )
 }
 
@@ -218,12 +227,14 @@ pub extern "C" fn reamstork_scan(
     scan::scan(
         records,
         default_action,
-        destination,
-        source,
-        protocol,
-        destination_port,
-        source_port,
-        portless,
+        Packet {
+            destination,
+            source,
+            protocol,
+            destination_port,
+            source_port,
+            portless,
+        },
     )
 }
 
@@ -240,7 +251,7 @@ pub extern "C" fn reamstork_prefix(address: u32, length: u32) -> Range
 pub extern "C" fn reamstork_tallies_clear(tallies: &mut Tallies)
     ensures { tallies.new ≡ cleared }
 {
-    tally::clear(&mut tallies.key, &mut tallies.packets, &mut tallies.bytes)
+    tallies.clear()
 }
 
 // Looks an IPv4 packet up, and adds to the tally of the rule that decides.
@@ -252,13 +263,7 @@ pub extern "C" fn reamstork_lookup_packet_tally(
 ) -> Found
     ensures { (result ≡ tally_answer words.now packet.now tallies.old) × (tallies.new ≡ tallies_left words.now packet.now tallies.old) }
 {
-    tally::lookup_packet(
-        words,
-        packet,
-        &mut tallies.key,
-        &mut tallies.packets,
-        &mut tallies.bytes,
-    )
+    tally::lookup_packet(words, packet, tallies)
 }
 
 // What was added to a count between two readings of it.
@@ -282,7 +287,7 @@ pub extern "C" fn reamstork_image_words(words: &[u32]) -> Size
 pub extern "C" fn reamstork_freeze(words: &[u32], image: &mut [u32]) -> u32
     ensures { (result ≡ freeze_says (kind_in words.now) words.now image.old) × (image.new ≡ freeze_words (kind_in words.now) words.now image.old) }
 {
-    freeze::freeze(words, image)
+    refusal::answer(freeze::freeze(words, image))
 }
 
 // The image check: 0 where the words are an image of their exact length, else 9.
@@ -290,7 +295,11 @@ pub extern "C" fn reamstork_freeze(words: &[u32], image: &mut [u32]) -> u32
 pub extern "C" fn reamstork_image_check(image: &[u32]) -> u32
     ensures { result ≡ image_says (kind_in image.now) image.now }
 {
-    if inspect::check(image) { 0 } else { 9 }
+    if inspect::check(image) {
+        0
+    } else {
+        Refusal::Damaged.number()
+    }
 }
 
 // Says the most blocks that any values read over an image, and the least record that reads so many.
@@ -316,12 +325,14 @@ pub extern "C" fn reamstork_image_lookup(
 {
     image::lookup(
         image,
-        destination,
-        source,
-        protocol,
-        destination_port,
-        source_port,
-        portless,
+        Packet {
+            destination,
+            source,
+            protocol,
+            destination_port,
+            source_port,
+            portless,
+        },
     )
 }
 
@@ -342,13 +353,7 @@ pub extern "C" fn reamstork_image_lookup_packet_tally(
 ) -> Found
     ensures { (result ≡ image_tally image.now packet.now tallies.old) × (tallies.new ≡ image_tallies image.now packet.now tallies.old) }
 {
-    image::lookup_packet_tally(
-        image,
-        packet,
-        &mut tallies.key,
-        &mut tallies.packets,
-        &mut tallies.bytes,
-    )
+    image::lookup_packet_tally(image, packet, tallies)
 }
 
 // Begins a capture: writes a file header into the first bytes of a slice.

@@ -2,7 +2,6 @@
 #![tactic(auto)]
 
 ghost use Rattle.std.specs.Prelude.{◌≡◌, suc, ◌+◌, ◌*◌, ◌≤◌, length};
-ghost use Rattle.model.specs.Table.{Shaped};
 ghost use Rattle.rows.specs.Rows.{Scratch};
 ghost use Rattle.table.specs.Rows.{kind_of};
 ghost use Rattle.series.specs.Edits.{edits_from, list_says, list_words};
@@ -15,25 +14,24 @@ pub fn edit_list(
     words: &mut [u32],
     edits: &[u32],
     count: usize,
-    tops: &[u32],
-    shape: Shape,
+    shape: &Shape,
     set: &mut [u16],
     sets: &mut [u16],
     ends: &mut [u32],
 ) -> Listed
-    requires { Shaped (kind_of tops.now shape) × (suc shape.most ≤ length set.old) × Scratch (suc shape.most) (length tops.now) sets.old ends.old × (count ≤ 32 → (shape.width + 1) * count ≤ length edits.now) }
-    ensures { (result ≡ list_says (kind_of tops.now shape) words.old (edits_from (length tops.now) (shape.width + 1) count edits.now 0)) × (words.new ≡ list_words (kind_of tops.now shape) words.old (edits_from (length tops.now) (shape.width + 1) count edits.now 0)) }
+    requires { (suc shape.now.most ≤ length set.old) × Scratch (suc shape.now.most) (length shape.now.tops.now) sets.old ends.old × (count ≤ 32 → (shape.now.width + 1) * count ≤ length edits.now) }
+    ensures { (result ≡ list_says (kind_of shape.now) words.old (edits_from (length shape.now.tops.now) (shape.now.width + 1) count edits.now 0)) × (words.new ≡ list_words (kind_of shape.now) words.old (edits_from (length shape.now.tops.now) (shape.now.width + 1) count edits.now 0)) }
 {
-    let said = lists::decide(words, edits, count, tops, shape, set, sets, ends);
+    let said = lists::decide(words, edits, count, shape, set, sets, ends);
     if said.answer != 0 {
         return said;
     }
     let c = words[0];
-    let from = table::rows_end(shape) as usize;
+    let from = shape.rows_end() as usize;
     let end = from + (2 + 8 * (c as usize));
-    cells::drop(&mut words[from..end], c, tops.len() as u32);
-    lists::apply_all(&mut words[..from], edits, count as u32, tops, shape);
+    cells::drop(&mut words[from..end], c, shape.tops.len() as u32);
+    lists::apply_all(&mut words[..from], edits, count as u32, shape);
     let n = words[1];
-    plant::plant(words, c, n, tops, shape, sets, ends);
+    plant::plant(words, c, n, shape, sets, ends);
     said
 }

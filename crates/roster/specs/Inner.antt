@@ -1,7 +1,7 @@
 -- Tables that are named by sets, and what the functions over them are lent. The promise of a call says nothing of these.
 -- Assumes nothing: these are definitions.
 use Rattle.std.specs.Prelude.{◌≡◌, true, List, map, ℕ, suc, ◌+◌, ◌≤◌, length, take}
-use Rattle.model.specs.Table.{Kind, Table, Shaped, default_rule, every_rule, row_words, within}
+use Rattle.model.specs.Table.{Kind, Table, default_rule, every_rule, row_words, within}
 use Rattle.rows.specs.Rows.{Scratch}
 use Rattle.table.specs.Rows.{rule_in}
 
@@ -14,7 +14,6 @@ pub record Named (k : Kind) (ws : List ℕ) (n : ℕ) (set : List ℕ) (t : Tabl
 
 -- what the functions are lent: the rows of a store, the word at which a row begins behind them, at most that of the last of 32 edits with 31 words and one more each, a set of n rules with room for all that the kind takes, and scratch
 pub record Lent (k : Kind) (rows : List ℕ) (row n : ℕ) (set sets ends : List ℕ) : Type 0 where
-  pub shaped : Shaped k
   pub whole : length rows ≡ row_words k
   pub near : row ≤ 1025
   pub few : n ≤ k.most

@@ -1,4 +1,4 @@
 pub mod Sets
 pub mod Insert
-pub mod Behind
 pub mod Room
+pub mod Coming

@@ -1,3 +1,2 @@
-pub mod Steps
 pub mod Least
 pub mod Through

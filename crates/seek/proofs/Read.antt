@@ -7,15 +7,14 @@ use Prim.Native.Nat.{ℕ, zero, suc, ◌+◌, ◌-◌, ◌*◌, ◌≤◌, ◌<�
 use native.Mathlib.Omega.{arith}
 use native.Mathlib.Numerals.{add-one}
 use lib.Dec.{eqb}
-use lib.ListN.{length, get_or, take, drop}
+use lib.ListN.{length, get_or}
 use borrow.Author.Tests.{lt-ltb, le-ltb, eq-eqb, ne_eqb}
 use Rattle.model.specs.Table.{Kind, Shaped, row_words, Rule, default_rule, stands, rule_at, read_rule, place_rule}
 use Rattle.model.proofs.Keep.{in_get_d}
 use Rattle.model.proofs.Limits.{in_rising, one_number, rule_in_lem, rule_none}
-use Rattle.table.specs.Rows.{no_rule, placed, rule_in, table_in, ahead}
+use Rattle.table.specs.Rows.{no_rule, placed, rule_in, ahead}
 use Rattle.table.proofs.Edits.{at_stands}
 use Rattle.layout.specs.Store.{rows_of, table_of, passes, read_says, place_says, cells_says, cells_gives}
-use Rattle.layout.proofs.Parts.{rows_slice}
 use Rattle.layout.proofs.Words.{rule_at_lem}
 use Rattle.layout.proofs.Sound.{sound, count_is}
 use Rattle.layout.proofs.Passed.{sound_within, sound_free}
@@ -87,14 +86,10 @@ module _ (k : Kind) (sh : Shaped k) (ws : List ℕ) (p : ℕ) where
             row_is k sh ws p h p m ∙ ap (λ i. get_or (default_rule k (table_of k ws).action ∷ R) i no_rule) y ∙ either_default R (p - 1) no_rule (default_rule k (table_of k ws).action) (omega arith),
           )
 
--- the table of the rows as a slice of the words: E is the code's end of them
-pub slice_table : (k : Kind) (ws : List ℕ) (E : ℕ) → E ≡ k.head + row_words k → table_in k (get_or ws 1 0) (take (E - k.head) (drop k.head ws)) ≡ table_of k ws
-slice_table k ws E f = ap (table_in k (get_or ws 1 0)) (rows_slice k ws E f)
-
 -- CELLS
 module _ (k : Kind) (sh : Shaped k) (ws : List ℕ) where
-  pub cells_refused : passes k ws ≡ false → (9 ≡ cells_says k ws) × (0 ≡ cells_gives k ws)
-  cells_refused h = (rw h, rw h)
+  pub cells_refused : passes k ws ≡ false → 9 ≡ cells_says k ws
+  cells_refused h = rw h
 
   pub cells_done : passes k ws ≡ true → (E : ℕ) → E ≡ k.head + row_words k → (0 ≡ cells_says k ws) × (get_or ws E 0 ≡ cells_gives k ws)
   cells_done h E f = (rw h, rw (h, f) (sound_free k sh ws (sound k sh ws h)))

@@ -3,11 +3,15 @@
 use mathlib.Core.Path.{◌≡◌, sym, ap, ap₂, ◌∙◌}
 use mathlib.Core.Bool.{true}
 use mathlib.Core.List.{List, ◌∷◌, ◌++◌, map}
-use Prim.Native.Nat.{ℕ, suc, ◌+◌, ◌-◌, ◌≤◌, ◌<◌}
+use Prim.Native.Nat.{ℕ, suc, ◌+◌, ◌-◌, ◌*◌, ◌≤◌, ◌<◌}
 use native.Mathlib.Omega.{arith}
 use native.Mathlib.Numerals.{add-one}
 use lib.ListN.{length, get_or, take}
 use borrow.Author.Tests.{eq-eqb, ne_eqb, le-leb}
+use Rattle.std.specs.Prelude.{Result, IfOk}
+use Rattle.refusal.specs.declared.Refusal.{Refusal}
+use Rattle.refusal.specs.Refusals.{number_of, answer_of}
+use Rattle.refusal.proofs.Numbers.{refuses}
 use Rattle.model.specs.Table.{Kind, Table, within, with_rule, without, insert_answer, delete_answer}
 use Rattle.table.specs.Rows.{rule_in, table_in, places}
 use Rattle.table.proofs.Laws.{rules_length}
@@ -18,14 +22,14 @@ use Rattle.series.specs.declared.Listed.{Listed}
 use Rattle.series.specs.Edits.{Edit, edit_answer, edited, listed, first_refusal, edit_in, edits_from}
 
 -- AN EDIT of a list, by its first word
-module _ (k : Kind) (c : ℕ) (t : Table) (ws set xs : List ℕ) (i a m : ℕ) where
-  pub insert_step : get_or xs i 0 ≡ 0 → (a ≡ insert_answer k c t (rule_in (length k.tops) xs (i + 1))) × (a ≡ 0 → Named k ws m set (with_rule (rule_in (length k.tops) xs (i + 1)) t))
-      → (a ≡ edit_answer k c t (edit_in (length k.tops) xs i)) × (a ≡ 0 → Named k ws m set (edited t (edit_in (length k.tops) xs i)))
-  insert_step e d = rw (eq-eqb (get_or xs i 0) 0 e) d
+module _ (k : Kind) (c : ℕ) (t : Table) (ws set xs : List ℕ) (i : ℕ) (d : Result ℕ Refusal) where
+  pub insert_step : get_or xs i 0 ≡ 0 → (answer_of d ≡ insert_answer k c t (rule_in (length k.tops) xs (i + 1))) × IfOk d (λ m. Named k ws m set (with_rule (rule_in (length k.tops) xs (i + 1)) t))
+      → (answer_of d ≡ edit_answer k c t (edit_in (length k.tops) xs i)) × IfOk d (λ m. Named k ws m set (edited t (edit_in (length k.tops) xs i)))
+  insert_step e q = rw (eq-eqb (get_or xs i 0) 0 e) q
 
-  pub delete_step : (get_or xs i 0 ≡ 0 → ⊥) → (x : ℕ) → x ≡ get_or xs (i + 1) 0 → (a ≡ delete_answer t x) × (a ≡ 0 → Named k ws m set (without x t))
-      → (a ≡ edit_answer k c t (edit_in (length k.tops) xs i)) × (a ≡ 0 → Named k ws m set (edited t (edit_in (length k.tops) xs i)))
-  delete_step e x q d = rw (ne_eqb (get_or xs i 0) 0 e) (rw q at d)
+  pub delete_step : (get_or xs i 0 ≡ 0 → ⊥) → (x : ℕ) → x ≡ get_or xs (i + 1) 0 → (answer_of d ≡ delete_answer t x) × IfOk d (λ m. Named k ws m set (without x t))
+      → (answer_of d ≡ edit_answer k c t (edit_in (length k.tops) xs i)) × IfOk d (λ m. Named k ws m set (edited t (edit_in (length k.tops) xs i)))
+  delete_step e x y q = rw (ne_eqb (get_or xs i 0) 0 e) (rw y at q)
 
 -- A LIST ON ITS WAY: p edits are accepted, a set names the table that they leave, and what the others answer in it is what the whole list answers
 pub record Going (k : Kind) (c : ℕ) (ws : List ℕ) (n : ℕ) (set : List ℕ) (p : ℕ) (es : List Edit) (whole : Listed) : Type 0 where
@@ -35,7 +39,7 @@ pub record Going (k : Kind) (c : ℕ) (ws : List ℕ) (n : ℕ) (set : List ℕ)
 
 -- before the first of them the set is that of the rows
 pub going_first : (k : Kind) (c n : ℕ) (rows xs set : List ℕ) (s count : ℕ) → TableHeld k n rows → take (n + 1) set ≡ places k.width n
-    → Going k c (rows ++ xs) n set 0 (edits_from (length k.tops) s (count - 0) xs 0) (first_refusal k c 0 (table_in k n rows) (edits_from (length k.tops) s count xs 0))
+    → Going k c (rows ++ xs) n set 0 (edits_from (length k.tops) s (count - 0) xs (s * 0)) (first_refusal k c 0 (table_in k n rows) (edits_from (length k.tops) s count xs 0))
 going_first k c n rows xs set s count d e =
     let T = table_in k n rows in
     let l = rules_length k n rows in
@@ -48,31 +52,38 @@ going_first k c n rows xs set s count d e =
         first = ap (λ ys. rule_in (length k.tops) (ys ++ xs) 0) d.text ∙ front_default k d.rowed.shaped T right xs;
         right = right;
       };
-      answers = let z : count - 0 ≡ count = omega arith in ap (λ m. first_refusal k c 0 T (edits_from (length k.tops) s m xs 0)) z;
+      answers = let z : count - 0 ≡ count = omega arith in let y : s * 0 ≡ 0 = omega arith in ap₂ (λ m i. first_refusal k c 0 T (edits_from (length k.tops) s m xs i)) z y;
     }
 
-module _ (k : Kind) (c : ℕ) (ws : List ℕ) (n : ℕ) (set xs : List ℕ) (s count p i : ℕ) (whole : Listed) (g : Going k c ws n set p (edits_from (length k.tops) s (count - p) xs i) whole) where
-  abbrev f : ℕ
-  f = length k.tops
+module _ (k : Kind) (c : ℕ) (ws : List ℕ) (n : ℕ) (set xs : List ℕ) (s count p : ℕ) (whole : Listed) (g : Going k c ws n set p (edits_from (length k.tops) s (count - p) xs (s * p)) whole) where
+  abbrev E : Edit
+  E = edit_in (length k.tops) xs (s * p)
 
   pub going_end : count ≤ p → listed 0 0 ≡ whole
   going_end h = let z : count - p ≡ 0 = omega arith in rw z at g.answers
 
   -- an edit more, with what was found of it
-  module _ (h : p < count) (new : List ℕ) (a m : ℕ) (said : (t : Table) → Named k ws n set t → (a ≡ edit_answer k c t (edit_in (length k.tops) xs i)) × (a ≡ 0 → Named k ws m new (edited t (edit_in (length k.tops) xs i)))) where
-    here : first_refusal k c p g.table (edit_in f xs i ∷ edits_from f s (count - (p + 1)) xs (i + s)) ≡ whole
-    here = let z : count - p ≡ suc (count - (p + 1)) = omega arith in rw z at g.answers
+  module _ (h : p < count) where
+    abbrev rest : List Edit
+    rest = edits_from (length k.tops) s (count - (p + 1)) xs (s * (p + 1))
 
-    pub going_refused : (a ≡ 0 → ⊥) → listed a (p + 1) ≡ whole
-    going_refused o =
-        let e = (said g.table g.named).0 in
-        ap₂ listed e (add-one p) ∙ (rw (ne_eqb (edit_answer k c g.table (edit_in f xs i)) 0 (λ z. o (e ∙ z))) at here)
+    here : first_refusal k c p g.table (E ∷ rest) ≡ whole
+    here =
+        let z : count - p ≡ suc (count - (p + 1)) = omega arith in
+        let y : s * p + s ≡ s * (p + 1) = rw (add-one p) (omega arith) in
+        rw (z, y) at g.answers
 
-    pub going_on : a ≡ 0 → Going k c ws m new (p + 1) (edits_from (length k.tops) s (count - (p + 1)) xs (i + s)) whole
-    going_on o =
+    pub going_refused : (r : Refusal) → ((t : Table) → Named k ws n set t → number_of r ≡ edit_answer k c t (edit_in (length k.tops) xs (s * p))) → listed (number_of r) (p + 1) ≡ whole
+    going_refused r said =
+        let e = said g.table g.named in
+        ap₂ listed e (add-one p) ∙ (rw (ne_eqb (edit_answer k c g.table E) 0 (λ z. refuses r (e ∙ z))) at here)
+
+    pub going_on : (new : List ℕ) (m : ℕ) → ((t : Table) → Named k ws n set t → (0 ≡ edit_answer k c t (edit_in (length k.tops) xs (s * p))) × Named k ws m new (edited t (edit_in (length k.tops) xs (s * p))))
+        → Going k c ws m new (p + 1) (edits_from (length k.tops) s (count - (p + 1)) xs (s * (p + 1))) whole
+    going_on new m said =
         let d = said g.table g.named in
         record {
-          table = edited g.table (edit_in f xs i);
-          named = d.1 o;
-          answers = ap (λ j. first_refusal k c j (edited g.table (edit_in f xs i)) (edits_from f s (count - (p + 1)) xs (i + s))) (add-one p) ∙ (rw (eq-eqb (edit_answer k c g.table (edit_in f xs i)) 0 (sym d.0 ∙ o)) at here);
+          table = edited g.table E;
+          named = d.1;
+          answers = ap (λ j. first_refusal k c j (edited g.table E) rest) (add-one p) ∙ (rw (eq-eqb (edit_answer k c g.table E) 0 (sym d.0)) at here);
         }

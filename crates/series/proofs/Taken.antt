@@ -1,9 +1,9 @@
 -- Lists of edits of which all are accepted: what an answer 0 says, and that the table after them is within the limits and fits.
 -- Assumes nothing.
-use mathlib.Core.Path.{◌≡◌, sym, ◌∙◌}
+use mathlib.Core.Path.{◌≡◌, refl, sym, ap, ◌∙◌}
 use mathlib.Core.Bool.{true, false}
 use mathlib.Core.List.{List, [], ◌∷◌}
-use Prim.Native.Nat.{ℕ, suc, ◌≤◌}
+use Prim.Native.Nat.{ℕ, zero, suc, ◌+◌, ◌≤◌}
 use native.Mathlib.Omega.{arith}
 use lib.Dec.{ltb, eqb}
 use lib.ListN.{length}
@@ -12,8 +12,13 @@ use Rattle.model.specs.Table.{Kind, Table, cells_of, within}
 use Rattle.model.proofs.Tests.{by_test}
 use Rattle.model.proofs.Edits.{taken, insert_within, delete_within, delete_fewer}
 use Rattle.layout.specs.Store.{cells_in, table_of, passes}
-use Rattle.series.specs.Edits.{Edit, inserts, deletes, edit_answer, edited, edited_all, first_refusal, list_says}
+use Rattle.series.specs.Edits.{Edit, inserts, deletes, edit_answer, edited, edited_all, first_refusal, list_says, edits_from}
 use Rattle.series.specs.Inner.{AllTaken}
+
+-- so many edits as are read of some words
+pub edits_length : (f s n : ℕ) (xs : List ℕ) (i : ℕ) → length (edits_from f s n xs i) ≡ n
+edits_length f s zero xs i = refl
+edits_length f s (suc n) xs i = ap suc (edits_length f s n xs (i + s))
 
 -- AN ACCEPTED EDIT leaves a table within the limits, in as many cells as there are
 pub taken_right : (k : Kind) (c : ℕ) (t : Table) (e : Edit) → within k t ≡ true → edit_answer k c t e ≡ 0 → within k (edited t e) ≡ true

@@ -1,14 +1,16 @@
 // What a list of edits decides, before a word is written: each edit of the table that those before it leave. The rows of the store are only read. The table on the way is a set (`roster`) that says where its rows begin, in the rows of the store or among the edits, which are lent behind them.
 #![tactic(auto)]
 
-ghost use Rattle.std.specs.Prelude.{◌≡◌, ◌++◌, suc, ◌+◌, ◌≤◌, length};
+ghost use Rattle.std.specs.Prelude.{◌≡◌, IfOk, ◌++◌, suc, ◌+◌, ◌≤◌, length};
 ghost use Rattle.model.specs.Table.{Table};
+ghost use Rattle.refusal.specs.Refusals.{answer_of};
 ghost use Rattle.rows.specs.Rows.{Scratch};
 ghost use Rattle.table.specs.Rows.{kind_of, table_in};
 ghost use Rattle.layout.specs.Inner.{TableHeld};
 ghost use Rattle.roster.specs.Inner.{Named, Lent};
-ghost use Rattle.series.specs.Edits.{edit_answer, edited, edit_in, edits_from, first_refusal};
+ghost use Rattle.series.specs.Edits.{edit_answer, edited, listed, edit_in, edits_from, first_refusal};
 
+use refusal::Refusal;
 use table::Shape;
 
 // What a list of edits answers: 0 and 0, or the number of the first refusal and the place, counted from 1, of the edit that is refused.
@@ -19,14 +21,19 @@ pub struct Listed {
     pub place: u32,
 }
 
-// How far a list is: the answer of an edit, and with 0 how many rules the set names then.
-#[derive(Clone, Copy)]
-struct Step {
-    answer: u32,
-    n: usize,
+impl Listed {
+    // The answer of a list by its number, with a place beside it.
+    pub fn of(done: Result<(), Refusal>, place: u32) -> Listed
+        ensures { result ≡ listed (answer_of done) place }
+    {
+        Listed {
+            answer: refusal::answer(done),
+            place,
+        }
+    }
 }
 
-// What the edit that begins at a word of the list answers in the table that a set of n rules names; with 0 the set names the new table.
+// What the edit that begins at a word of the list answers in the table that a set of n rules names, and how many rules it names then; where the edit is accepted the set names the new table.
 fn edit(
     rows: &[u32],
     edits: &[u32],
@@ -34,32 +41,17 @@ fn edit(
     set: &mut [u16],
     n: usize,
     c: u32,
-    tops: &[u32],
-    shape: Shape,
+    shape: &Shape,
     sets: &mut [u16],
     ends: &mut [u32],
-) -> Step
-    requires { Lent (kind_of tops.now shape) rows.now (at + 1) n set.old sets.old ends.old × (c ≤ 65536) }
-    ensures { (result.n ≤ shape.most) × ((t : Table) → Named (kind_of tops.now shape) (rows.now ++ edits.now) n set.old t → (result.answer ≡ edit_answer (kind_of tops.now shape) c t (edit_in (length tops.now) edits.now at)) × (result.answer ≡ 0 → Named (kind_of tops.now shape) (rows.now ++ edits.now) result.n set.new (edited t (edit_in (length tops.now) edits.now at)))) }
+) -> Result<usize, Refusal>
+    requires { Lent (kind_of shape.now) rows.now (at + 1) n set.old sets.old ends.old × (c ≤ 65536) }
+    ensures { IfOk result (λ m. m ≤ shape.now.most) × ((t : Table) → Named (kind_of shape.now) (rows.now ++ edits.now) n set.old t → (answer_of result ≡ edit_answer (kind_of shape.now) c t (edit_in (length shape.now.tops.now) edits.now at)) × IfOk result (λ m. Named (kind_of shape.now) (rows.now ++ edits.now) m set.new (edited t (edit_in (length shape.now.tops.now) edits.now at)))) }
 {
     if table::word(edits, at) == 0 {
-        let answer = roster::insert_into(rows, edits, at + 1, set, n, c, tops, shape, sets, ends);
-        if answer != 0 {
-            return Step { answer, n: 0 };
-        }
-        return Step {
-            answer: 0,
-            n: n + 1,
-        };
+        return roster::insert_into(rows, edits, at + 1, set, n, c, shape, sets, ends);
     }
-    let answer = roster::delete_from(rows, edits, set, n, table::word(edits, at + 1));
-    if answer != 0 {
-        return Step { answer, n: 0 };
-    }
-    Step {
-        answer: 0,
-        n: n - 1,
-    }
+    roster::delete_from(rows, edits, set, n, table::word(edits, at + 1))
 }
 
 // What a list of edits answers, a row and a word more for each, in the table of n rules that the rows hold, where the store has c cells. The set is scratch, for as many places as the kind takes rules and one more.
@@ -69,34 +61,23 @@ pub fn first_refusal(
     c: u32,
     edits: &[u32],
     count: u32,
-    tops: &[u32],
-    shape: Shape,
+    shape: &Shape,
     set: &mut [u16],
     sets: &mut [u16],
     ends: &mut [u32],
 ) -> Listed
-    requires { TableHeld (kind_of tops.now shape) n rows.now × (c ≤ 65536) × (count ≤ 32) × (suc shape.most ≤ length set.old) × Scratch (suc shape.most) (length tops.now) sets.old ends.old }
-    ensures { result ≡ first_refusal (kind_of tops.now shape) c 0 (table_in (kind_of tops.now shape) n rows.now) (edits_from (length tops.now) (shape.width + 1) count edits.now 0) }
+    requires { TableHeld (kind_of shape.now) n rows.now × (c ≤ 65536) × (count ≤ 32) × (suc shape.now.most ≤ length set.old) × Scratch (suc shape.now.most) (length shape.now.tops.now) sets.old ends.old }
+    ensures { result ≡ first_refusal (kind_of shape.now) c 0 (table_in (kind_of shape.now) n rows.now) (edits_from (length shape.now.tops.now) (shape.now.width + 1) count edits.now 0) }
 {
-    let stride = (shape.width as usize) + 1;
+    let stride = shape.width as usize + 1;
     let mut m = n as usize;
-    let mut at: usize = 0;
-    let mut i: u32 = 0;
-    table::places(shape.width, n, set);
-    while i < count {
-        let step = edit(rows, edits, at, set, m, c, tops, shape, sets, ends);
-        if step.answer != 0 {
-            return Listed {
-                answer: step.answer,
-                place: i + 1,
-            };
+    table::places(shape, n, set);
+    for i in 0..count {
+        let at = stride * (i as usize);
+        match edit(rows, edits, at, set, m, c, shape, sets, ends) {
+            Ok(left) => m = left,
+            Err(refusal) => return Listed::of(Err(refusal), i + 1),
         }
-        m = step.n;
-        at += stride;
-        i += 1;
     }
-    Listed {
-        answer: 0,
-        place: 0,
-    }
+    Listed::of(Ok(()), 0)
 }

@@ -14,11 +14,12 @@ use Rattle.model.proofs.Tests.{and_left, and_right}
 use Rattle.cells.specs.Text.{cell_word, cell, Run, nil, snoc, len, low, row, width, under, first, marks, belows, tree_text}
 use Rattle.cells.proofs.Text.{row_length, marks_len, belows_length, cells_sum}
 use Rattle.cells.specs.declared.Below.{Below}
-use Rattle.stands.specs.declared.Told.TheVariants.{Same, Differs}
+use Rattle.std.specs.Prelude.{Some, None}
+use Rattle.stands.specs.declared.Stands.{Stands}
 use Rattle.model.specs.Lists.{same}
 use Rattle.stands.specs.Stands.{Room, from, told, head_is, rest_is}
 use Rattle.model.proofs.UpTo.{same_true, true_same}
-use Rattle.stands.proofs.Answers.{answer_no, answer_differs, answer_same}
+use Rattle.stands.proofs.Answers.{answer_no, answer_none, answer_some}
 
 -- sizes
 pub text_length : (c : ℕ) (t : Tree ℕ) (a : ℕ) (r : List ℕ) → length (tree_text c t a r) ≡ 8 * cells t + length r
@@ -159,26 +160,26 @@ module _ (ws : List ℕ) (c : ℕ) where
     pub parts_held : Parts k (k + width t) t → Held t k
     parts_held p = let i = together t k (k + width t) p in i.0 ∙ ap (λ l. row c (marks c t (k + width t)) k l) (i.1 ∙ ap (λ n. belows c t (k + width t) (from ws n)) end)
 
-    pub told_same : Held t k → told ws c k t ≡ Same (k + cells t) (first c t k)
+    pub told_same : Held t k → told ws c k t ≡ Some (record { past = k + cells t; says = first c t k })
     unfolding told
     told_same h = rw (true_same _ _ h)
 
-    pub told_differs : (Held t k → ⊥) → told ws c k t ≡ Differs
+    pub told_differs : (Held t k → ⊥) → told ws c k t ≡ None
     unfolding told
     told_differs h = answer_no _ _ _ (λ q. h (same_true _ _ q))
 
-    pub told_not : told ws c k t ≡ Differs → (r : List ℕ) → from ws k ≡ tree_text c t k r → ⊥
+    pub told_not : told ws c k t ≡ None → (r : List ℕ) → from ws k ≡ tree_text c t k r → ⊥
     unfolding told
-    told_not d r h = answer_differs _ (k + cells t) (first c t k) d (true_same _ _ (h ∙ ap (λ l. tree_text c t k l) (text_rest r h)))
+    told_not d r h = answer_none _ (k + cells t) (first c t k) d (true_same _ _ (h ∙ ap (λ l. tree_text c t k l) (text_rest r h)))
 
-    module _ (p : ℕ) (l : Below) (h : told ws c k t ≡ Same p l) where
-      pub told_held : Held t k × (p ≡ k + cells t) × (l ≡ first c t k)
+    module _ (u : Stands) (h : told ws c k t ≡ Some u) where
+      pub told_held : Held t k × (u.past ≡ k + cells t) × (u.says ≡ first c t k)
       unfolding told
       told_held =
-          let v = answer_same (same (from ws k) (tree_text c t k (from ws (k + cells t)))) (k + cells t) (first c t k) h in
+          let v = answer_some (same (from ws k) (tree_text c t k (from ws (k + cells t)))) (k + cells t) (first c t k) h in
           (same_true _ _ v.0, v.1, v.2)
 
-      pub told_inside : Room ws c → k ≤ c → p ≤ c
+      pub told_inside : Room ws c → k ≤ c → u.past ≤ c
       told_inside r le =
           let v = told_held in
           omega (arith, v.1, ap length v.0, text_length c t k (from ws (k + cells t)), length-drop (2 + 8 * k) ws, length-drop (2 + 8 * (k + cells t)) ws, r.size)

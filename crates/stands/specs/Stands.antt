@@ -1,12 +1,11 @@
 -- What the inner functions say of the words from a cell on: whether they are the text of a tree, or the run of a chain. (The promise of `compare::part_is` cites none of this, but `same` and the part of a store that `cells` defines.)
 -- Assumes nothing: these are definitions.
-use Rattle.std.specs.Prelude.{◌≡◌, Bool, true, false, ◌&&◌, List, [], ◌∷◌, ℕ, ◌+◌, ◌*◌, ◌≤◌, ltb, eqb, length, drop}
+use Rattle.std.specs.Prelude.{◌≡◌, Bool, true, false, ◌&&◌, List, [], ◌∷◌, ℕ, ◌+◌, ◌*◌, ◌≤◌, ltb, eqb, length, drop, Option, Some, None}
 use Rattle.model.specs.Lists.{same}
 use Rattle.model.specs.Rules.{Tree, cells}
 use Rattle.cells.specs.Text.{cell_word, only_down, first, tree_text}
 use Rattle.cells.specs.declared.Below.{Below}
-use Rattle.stands.specs.declared.Told.{Told}
-use Rattle.stands.specs.declared.Told.TheVariants.{Same, Differs}
+use Rattle.stands.specs.declared.Stands.{Stands}
 
 -- the words are two links and c cells
 pub record Room (ws : List ℕ) (c : ℕ) : Type 0 where
@@ -18,12 +17,12 @@ abbrev pub from : List ℕ → ℕ → List ℕ
 from ws k = drop (2 + 8 * k) ws
 
 -- what a comparison answers, where its test is b: the cell behind the last one that was compared, and what a cell above it says
-abbrev pub answer : Bool → ℕ → Below → Told
-answer true past low = Same past low
-answer false past low = Differs
+abbrev pub answer : Bool → ℕ → Below → Option Stands
+answer true past low = Some (record { past = past; says = low })
+answer false past low = None
 
 -- the text of the tree t stands in the words from cell k on
-unfoldable pub told : List ℕ → ℕ → ℕ → Tree ℕ → Told
+unfoldable pub told : List ℕ → ℕ → ℕ → Tree ℕ → Option Stands
 told ws c k t = answer (same (from ws k) (tree_text c t k (from ws (k + cells t)))) (k + cells t) (first c t k)
 
 -- the first two words of cell k: its end and its next; and the other six: what is below it, and zeros
@@ -44,5 +43,5 @@ unfoldable pub heads_are : List ℕ → ℕ → ℕ → List ℕ → Bool
 heads_are ws c k [] = true
 heads_are ws c k (e ∷ es) = heads_are ws c k es && (ltb (k + length es) c && head_is ws (k + length es) e (before c k es))
 
-unfoldable pub told_run : List ℕ → ℕ → ℕ → List ℕ → Told
+unfoldable pub told_run : List ℕ → ℕ → ℕ → List ℕ → Option Stands
 told_run ws c k es = answer (heads_are ws c k es) (k + length es) (only_down (before c k es))

@@ -9,12 +9,13 @@ ghost use Rattle.model.specs.Lists.{same};
 ghost use Rattle.stands.specs.Stands.{Room, from, head_is, rest_is, told, heads_are, told_run};
 
 use cells::Below;
+use rows::Rows;
 
-// What a comparison tells: it stands there, with the cell behind the last one and what a cell above it says; or it does not.
+// Where the text of a tree or of a run stands that was looked for from a cell on: the cell behind its last one, and what a cell above it says.
 #[derive(Clone, Copy)]
-pub enum Told {
-    Same(u32, Below),
-    Differs,
+pub struct Stands {
+    pub past: u32,
+    pub says: Below,
 }
 
 // Whether cell k has an end and a next.
@@ -23,10 +24,7 @@ fn head_is(words: &[u32], c: u32, k: u32, end: u32, next: u32) -> bool
     ensures { result ≡ head_is words.now k end next }
 {
     let i = 2 + 8 * (k as usize);
-    if words[i] != end {
-        return false;
-    }
-    words[i + 1] == next
+    words[i] == end && words[i + 1] == next
 }
 
 // Whether cell k says what is below it, and then zeros. All six words are read before the first is tested: one test of them all is made of that.
@@ -35,30 +33,15 @@ pub fn rest_is(words: &[u32], c: u32, k: u32, under: Below) -> bool
     ensures { result ≡ rest_is words.now k under }
 {
     let i = 2 + 8 * (k as usize);
-    let below = words[i + 2];
-    let a = words[i + 3];
-    let b = words[i + 4];
-    let d = words[i + 5];
-    let e = words[i + 6];
-    let f = words[i + 7];
-    let down = under.down;
-    let side = under.side;
-    if below != down {
-        return false;
-    }
-    if a != side {
-        return false;
-    }
-    if b != 0 {
-        return false;
-    }
-    if d != 0 {
-        return false;
-    }
-    if e != 0 {
-        return false;
-    }
-    f == 0
+    let rest = [
+        words[i + 2],
+        words[i + 3],
+        words[i + 4],
+        words[i + 5],
+        words[i + 6],
+        words[i + 7],
+    ];
+    rest == [under.down, under.side, 0, 0, 0, 0]
 }
 
 // The end of cell k.
@@ -74,38 +57,30 @@ pub fn one_is(words: &[u32], c: u32, end: u32, k: u32) -> bool
     requires { Room words.now c × (k ≤ c) }
     ensures { result ≡ heads_are words.now c k (end ∷ []) }
 {
-    if c <= k {
-        return false;
-    }
-    head_is(words, c, k, end, c)
+    k < c && head_is(words, c, k, end, c)
 }
 
 // Whether the cells from k on are the run of the ends, which rise: the highest first, each with the cell before it as its next.
-fn run_of(words: &[u32], c: u32, ends: &[u32], k: u32) -> Told
+fn run_of(words: &[u32], c: u32, ends: &[u32], k: u32) -> Option<Stands>
     requires { Room words.now c × (k ≤ c) }
     ensures { result ≡ told_run words.now c k ends.now }
 {
-    let mut i = ends.len();
     let mut next = k;
     let mut head = c;
-    while 0 < i {
-        if c <= next {
-            return Told::Differs;
-        }
-        i -= 1;
-        if !head_is(words, c, next, ends[i], head) {
-            return Told::Differs;
+    for &end in ends.iter().rev() {
+        if c <= next || !head_is(words, c, next, end, head) {
+            return None;
         }
         head = next;
         next += 1;
     }
-    Told::Same(
-        next,
-        Below {
+    Some(Stands {
+        past: next,
+        says: Below {
             down: head,
             side: 0,
         },
-    )
+    })
 }
 
 // Whether the cells from k on are the run of the ends of the rules of the set in a field. The ends are written beside, over what stood there.
@@ -117,28 +92,28 @@ pub fn run_is(
     field: u32,
     k: u32,
     ends: &mut [u32],
-) -> Told
+) -> Option<Stands>
     requires { Room words.now c × (k ≤ c) × (2 * length set.now ≤ length ends.old) }
     ensures { result ≡ told_run words.now c k (ends_of (field_at rules.now field) set.now) }
 {
-    let n = rows::ends_of(rules, &rules[..0], set, field, ends);
+    let n = Rows::of(rules).ends_of(set, field, ends);
     run_of(words, c, &ends[..n], k)
 }
 
-// What stands where no field is left: the place of the first rule of the set, and no cell.
-pub fn leaf_is(set: &[u16], k: u32) -> Told
-    ensures { result ≡ Told.Same k (only_down (first_of set.now)) }
+// What stands from cell k on where no field is left: no cell, and above it the place of the first rule of the set is said.
+pub fn leaf(set: &[u16], k: u32) -> Stands
+    ensures { (result.past ≡ k) × (result.says ≡ only_down (first_of set.now)) }
 {
-    Told::Same(
-        k,
-        Below {
+    Stands {
+        past: k,
+        says: Below {
             down: rows::first_place(set),
             side: 0,
         },
-    )
+    }
 }
 
-// Whether each cell of a run of the last field, which stands from cell k up to end, names the first rule that covers its end. A cell above it says low.
+// Whether each cell of a run of the last field, which stands from cell k on, names the first rule that covers its end.
 pub fn last_is(
     words: &[u32],
     c: u32,
@@ -146,17 +121,15 @@ pub fn last_is(
     set: &[u16],
     field: u32,
     k: u32,
-    end: u32,
-    low: Below,
-) -> Told
-    requires { Room words.now c × (k ≤ c) × (told_run words.now c k (ends_of (field_at rules.now field) set.now) ≡ Told.Same end low) }
+    run: Stands,
+) -> Option<Stands>
+    requires { Room words.now c × (k ≤ c) × (told_run words.now c k (ends_of (field_at rules.now field) set.now) ≡ Some run) }
     ensures { result ≡ told words.now c k (tree_at rules.now field 1 set.now) }
 {
-    let none = &rules[..0];
-    let mut i = k;
-    while i < end {
+    let rows = Rows::of(rules);
+    for i in k..run.past {
         let e = end_at(words, c, i);
-        let named = rows::least(rules, none, set, field, e);
+        let named = rows.least(set, field, e);
         if !rest_is(
             words,
             c,
@@ -166,11 +139,10 @@ pub fn last_is(
                 side: 0,
             },
         ) {
-            return Told::Differs;
+            return None;
         }
-        i += 1;
     }
-    Told::Same(end, low)
+    Some(run)
 }
 
 // Whether the cells from k on are the free chain.
@@ -178,15 +150,7 @@ pub fn free_from(words: &[u32], c: u32, k: u32) -> bool
     requires { Room words.now c }
     ensures { result ≡ same (from words.now k) (frees k (c - k)) }
 {
-    let mut i = k;
-    while i < c {
-        if !head_is(words, c, i, 0, i + 1) {
-            return false;
-        }
-        if !rest_is(words, c, i, Below { down: 0, side: 0 }) {
-            return false;
-        }
-        i += 1;
-    }
-    true
+    (k..c).all(|i| {
+        head_is(words, c, i, 0, i + 1) && rest_is(words, c, i, Below { down: 0, side: 0 })
+    })
 }

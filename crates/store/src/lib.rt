@@ -4,6 +4,7 @@
 #![tactic(auto)]
 
 ghost use Rattle.std.specs.Prelude.{◌≡◌};
+ghost use Rattle.refusal.specs.Refusals.{answer_of};
 ghost use Rattle.model.specs.Ipv4.{large, kind_in};
 ghost use Rattle.ipv4.specs.Rule.{given};
 ghost use Rattle.gather.specs.Gather.{edits_in};
@@ -12,80 +13,45 @@ ghost use Rattle.layout.specs.Store.{start_answer, start_words, insert_says, ins
 
 use gather::Gathered;
 use ipv4::Rule;
+use refusal::Refusal;
 use series::Listed;
 
 // Starts a large store of c cells that holds the default rule alone, with an action.
-pub fn start(words: &mut [u32], c: u32, action: u32) -> u32
-    ensures { (result ≡ start_answer large words.old c) × (words.new ≡ start_words large words.old c action) }
+pub fn start(words: &mut [u32], c: u32, action: u32) -> Result<(), Refusal>
+    ensures { (answer_of result ≡ start_answer large words.old c) × (words.new ≡ start_words large words.old c action) }
 {
     let mut sets = [0u16; ipv4::LARGE];
     let mut ends = [0u32; ipv4::LARGE];
-    plant::start(
-        words,
-        c,
-        action,
-        &ipv4::TOPS,
-        ipv4::shape(true),
-        &mut sets,
-        &mut ends,
-    )
+    plant::start(words, c, action, &ipv4::shape(true), &mut sets, &mut ends)
 }
 
 // Inserts a rule.
-pub fn insert(words: &mut [u32], rule: Rule) -> u32
-    ensures { (result ≡ insert_says (kind_in words.old) words.old (given rule)) × (words.new ≡ insert_words (kind_in words.old) words.old (given rule)) }
+pub fn insert(words: &mut [u32], rule: Rule) -> Result<(), Refusal>
+    ensures { (answer_of result ≡ insert_says (kind_in words.old) words.old (given rule)) × (words.new ≡ insert_words (kind_in words.old) words.old (given rule)) }
 {
     let row = ipv4::row_of(rule);
     if ipv4::is_large(words) {
         let mut sets = [0u16; ipv4::LARGE];
         let mut ends = [0u32; ipv4::LARGE];
-        return change::insert(
-            words,
-            &row,
-            &ipv4::TOPS,
-            ipv4::shape(true),
-            &mut sets,
-            &mut ends,
-        );
+        return change::insert(words, &row, &ipv4::shape(true), &mut sets, &mut ends);
     }
     let mut sets = [0u16; ipv4::SMALL];
     let mut ends = [0u32; ipv4::SMALL];
-    change::insert(
-        words,
-        &row,
-        &ipv4::TOPS,
-        ipv4::shape(false),
-        &mut sets,
-        &mut ends,
-    )
+    change::insert(words, &row, &ipv4::shape(false), &mut sets, &mut ends)
 }
 
 // Deletes the rule of a number.
-pub fn delete(words: &mut [u32], number: u32) -> u32
-    ensures { (result ≡ delete_says (kind_in words.old) words.old number) × (words.new ≡ delete_words (kind_in words.old) words.old number) }
+pub fn delete(words: &mut [u32], number: u32) -> Result<(), Refusal>
+    ensures { (answer_of result ≡ delete_says (kind_in words.old) words.old number) × (words.new ≡ delete_words (kind_in words.old) words.old number) }
 {
     if ipv4::is_large(words) {
         let mut sets = [0u16; ipv4::LARGE];
         let mut ends = [0u32; ipv4::LARGE];
-        return change::delete(
-            words,
-            number,
-            &ipv4::TOPS,
-            ipv4::shape(true),
-            &mut sets,
-            &mut ends,
-        );
+        return change::delete(words, number, &ipv4::shape(true), &mut sets, &mut ends);
     }
     let mut sets = [0u16; ipv4::SMALL];
     let mut ends = [0u32; ipv4::SMALL];
-    change::delete(
-        words,
-        number,
-        &ipv4::TOPS,
-        ipv4::shape(false),
-        &mut sets,
-        &mut ends,
-    )
+    change::delete(words, number, &ipv4::shape(false), &mut sets, &mut ends)
 }
 
 // Does a list of edits: all of them, or none.
@@ -101,8 +67,7 @@ pub fn edit_list(words: &mut [u32], list: Gathered) -> Listed
             words,
             &list.words,
             count,
-            &ipv4::TOPS,
-            ipv4::shape(true),
+            &ipv4::shape(true),
             &mut set,
             &mut sets,
             &mut ends,
@@ -115,8 +80,7 @@ pub fn edit_list(words: &mut [u32], list: Gathered) -> Listed
         words,
         &list.words,
         count,
-        &ipv4::TOPS,
-        ipv4::shape(false),
+        &ipv4::shape(false),
         &mut set,
         &mut sets,
         &mut ends,
@@ -124,8 +88,8 @@ pub fn edit_list(words: &mut [u32], list: Gathered) -> Listed
 }
 
 // Carries the table of a store of either kind into lent words, as a large store of c cells.
-pub fn carry(from: &[u32], words: &mut [u32], c: u32) -> u32
-    ensures { (result ≡ carry_says (kind_in from.now) large from.now words.old c) × (words.new ≡ carry_words (kind_in from.now) large from.now words.old c) }
+pub fn carry(from: &[u32], words: &mut [u32], c: u32) -> Result<(), Refusal>
+    ensures { (answer_of result ≡ carry_says (kind_in from.now) large from.now words.old c) × (words.new ≡ carry_words (kind_in from.now) large from.now words.old c) }
 {
     let old = ipv4::shape(ipv4::is_large(from));
     let mut sets = [0u16; ipv4::LARGE];
@@ -134,9 +98,8 @@ pub fn carry(from: &[u32], words: &mut [u32], c: u32) -> u32
         from,
         words,
         c,
-        &ipv4::TOPS,
-        old,
-        ipv4::shape(true),
+        &old,
+        &ipv4::shape(true),
         &mut sets,
         &mut ends,
     )

@@ -4,11 +4,11 @@ use Rattle.std.specs.Prelude.{◌≡◌, Bool, true, false, cond, List, [], ◌�
 use Rattle.model.specs.Lists.{up_to, grid}
 use Rattle.model.specs.Table.{Kind, Rule, Table, default_rule, row_words, Shaped}
 use Rattle.rows.specs.Rows.{number_in, action_in, low_in, high_in}
-use Rattle.table.specs.declared.Shape.{Shape}
+use Rattle.table.specs.declared.shape.Shape.{Shape}
 
--- the kind of store that has these tops and this shape
-abbrev pub kind_of : List ℕ → Shape → Kind
-kind_of ts s = record { tops = ts; ports = s.ports; most = s.most; width = s.width; head = s.head; mark = s.mark }
+-- the kind of store that has this shape
+abbrev pub kind_of : Shape → Kind
+kind_of s = record { tops = s.tops.now; ports = s.ports; most = s.most; width = s.width; head = s.head; mark = s.mark }
 
 -- n rules of the rows of a kind: no more than it takes, and the words are all its rows
 pub record Rowed (k : Kind) (n : ℕ) (rows : List ℕ) : Type 0 where

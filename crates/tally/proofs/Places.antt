@@ -1,34 +1,35 @@
 -- The first place whose key passes a test, by the keys that were passed; and what the loop over the keys knows.
 -- Assumes nothing.
-use Rattle.std.proofs.Common.{◌≡◌, ℕ, zero, suc, ◌+◌, ◌<◌, ◌≤◌, Bool, true, false, cond, ltb, ◌⊎◌, List, [], ◌∷◌, length, get_or, sym, refl, ap, ◌∙◌, inl, inr, ⊎_elim, arith, ltb-false, ltb-true, le-ltb, lt-ltb}
+use Rattle.std.proofs.Common.{◌≡◌, ℕ, zero, suc, ◌+◌, ◌<◌, ◌≤◌, Bool, true, false, cond, ltb, List, [], ◌∷◌, length, get_or, sym, refl, ap, ◌∙◌, arith, ltb-false, ltb-true, le-ltb, lt-ltb, eq-eqb, le-leb}
+use Rattle.std.specs.Prelude.{Option, Some, None}
 use Rattle.tally.specs.declared.Place.{Place}
 use Rattle.tally.specs.declared.Place.TheVariants.{Held, New, Full}
 use Rattle.tally.specs.Tally.{unused, keyed, first_place, place_of}
 
 -- none of the first n keys passes the test
-abbrev pub None : (ℕ → Bool) → List ℕ → ℕ → Type 0
-None test keys n = (j : ℕ) → j < n → test (get_or keys j 0) ≡ false
+abbrev pub NonePass : (ℕ → Bool) → List ℕ → ℕ → Type 0
+NonePass test keys n = (j : ℕ) → j < n → test (get_or keys j 0) ≡ false
 
 module _ (test : ℕ → Bool) where
   -- the first place is the first that passes
-  pub first_at : (keys : List ℕ) (i : ℕ) → i < length keys → None test keys i → test (get_or keys i 0) ≡ true → first_place test keys ≡ i
+  pub first_at : (keys : List ℕ) (i : ℕ) → i < length keys → NonePass test keys i → test (get_or keys i 0) ≡ true → first_place test keys ≡ i
   unfolding first_place
   first_at [] i h n e = absurd (omega arith)
   first_at (key ∷ keys) zero h n e = rw e
   first_at (key ∷ keys) (suc i) h n e = rw (n 0 (omega arith)) (ap suc (first_at keys i (omega arith) (λ j l. n (suc j) (omega arith)) e))
 
-  pub first_none : (keys : List ℕ) → None test keys (length keys) → first_place test keys ≡ length keys
+  pub first_none : (keys : List ℕ) → NonePass test keys (length keys) → first_place test keys ≡ length keys
   unfolding first_place
   first_none [] n = refl
   first_none (key ∷ keys) n = rw (n 0 (omega arith)) (ap suc (first_none keys (λ j l. n (suc j) (omega arith))))
 
   -- and what the first place tells
-  pub before_first : (keys : List ℕ) → None test keys (first_place test keys)
+  pub before_first : (keys : List ℕ) → NonePass test keys (first_place test keys)
   unfolding first_place
   before_first [] j l = absurd (omega arith)
   before_first (key ∷ keys) j l = pick (before_first keys) (test key) refl j l
     where
-      pick : None test keys (first_place test keys) → (b : Bool) → test key ≡ b → (j : ℕ) → j < cond b 0 (suc (first_place test keys)) → test (get_or (key ∷ keys) j 0) ≡ false
+      pick : NonePass test keys (first_place test keys) → (b : Bool) → test key ≡ b → (j : ℕ) → j < cond b 0 (suc (first_place test keys)) → test (get_or (key ∷ keys) j 0) ≡ false
       pick rest true q j l = absurd (omega arith)
       pick rest false q zero l = q
       pick rest false q (suc j) l = rest j (omega arith)
@@ -43,7 +44,7 @@ module _ (test : ℕ → Bool) where
       pick rest false q l = rest (omega arith)
 
   -- one key more that does not pass
-  pub none_more : (keys : List ℕ) (n : ℕ) → None test keys n → test (get_or keys n 0) ≡ false → None test keys (n + 1)
+  pub none_more : (keys : List ℕ) (n : ℕ) → NonePass test keys n → test (get_or keys n 0) ≡ false → NonePass test keys (n + 1)
   none_more keys n h e j l = pick (ltb j n) refl
     where
       pick : (b : Bool) → ltb j n ≡ b → test (get_or keys j 0) ≡ false
@@ -51,60 +52,42 @@ module _ (test : ℕ → Bool) where
       pick false q = let a : j ≡ n = omega (arith, ltb-false j n q) in rw a e
 
 module _ (keys : List ℕ) where
-  -- what the loop knows of the first unused place after i keys: there was none, or it is this one
-  abbrev pub Free : ℕ → ℕ → Type 0
-  Free i free = ((free ≡ length keys) × None unused keys i) ⊎ ((free < length keys) × None unused keys free × (unused (get_or keys free 0) ≡ true))
-
-  pub free_first : Free 0 (length keys)
-  free_first = inl (refl, λ j l. absurd (omega arith))
-
-  pub free_next : (i free : ℕ) → i < length keys → Free i free → Free (i + 1) (cond (unused (get_or keys i 0)) (cond (ltb free (length keys)) free i) free)
-  free_next i free h f = by_key (unused (get_or keys i 0)) refl
-    where
-      by_key : (b : Bool) → unused (get_or keys i 0) ≡ b → Free (i + 1) (cond b (cond (ltb free (length keys)) free i) free)
-      by_key false e = ⊎_elim (λ g. inl (g.0, none_more unused keys i g.1 e)) inr f
-      by_key true e =
-          ⊎_elim
-          (λ g. rw (le-ltb free (length keys) (omega arith)) (inr (h, g.1, e)))
-          (λ g. rw (lt-ltb free (length keys) g.0) (inr g))
-          f
+  -- what the loop knows of the first unused place among the first i: there is none, or it is this one
+  abbrev pub Free : ℕ → Option ℕ → Type 0
+  Free i None = NonePass unused keys i
+  Free i (Some j) = (j < length keys) × NonePass unused keys j × (unused (get_or keys j 0) ≡ true)
 
   module _ (number : ℕ) where
-    pub held_at : (i : ℕ) → i < length keys → None (keyed number) keys i → keyed number (get_or keys i 0) ≡ true → place_of number keys ≡ Held i
+    pub held_at : (i : ℕ) → i < length keys → NonePass (keyed number) keys i → get_or keys i 0 ≡ number → get_or keys i 0 ≤ 65535 → place_of number keys ≡ Held i
     unfolding place_of
-    held_at i h n e = rw (first_at (keyed number) keys i h n e, lt-ltb i (length keys) h)
+    held_at i h n e l = rw (first_at (keyed number) keys i h n (rw (eq-eqb _ _ e, le-leb _ 65535 l)), lt-ltb i (length keys) h)
 
     -- all keys were passed
-    module _ (i free : ℕ) (all : length keys ≤ i) (none : None (keyed number) keys i) (f : Free i free) where
+    module _ (i : ℕ) (all : length keys ≤ i) (none : NonePass (keyed number) keys i) where
       none_keyed : ltb (first_place (keyed number) keys) (length keys) ≡ false
       none_keyed = le-ltb (first_place (keyed number) keys) (length keys) (omega (arith, first_none (keyed number) keys (λ j l. none j (omega arith))))
 
-      pub new_at : free < length keys → place_of number keys ≡ New free
+      pub new_at : (o : Option ℕ) (place : ℕ) → o ≡ Some place → Free i o → place_of number keys ≡ New place
       unfolding place_of
-      new_at h =
-          ⊎_elim (λ g. absurd (omega arith))
-          (λ g. rw none_keyed (rw (first_at unused keys free h g.1 g.2, lt-ltb free (length keys) h)))
-          f
+      new_at None place e f = absurd (cc)
+      new_at (Some j) place e f = let z : j ≡ place = cc in rw (← z, none_keyed, first_at unused keys j f.0 f.1 f.2, lt-ltb j (length keys) f.0)
 
-      pub full_at : length keys ≤ free → place_of number keys ≡ Full
+      pub full_at : (o : Option ℕ) → o ≡ None → Free i o → place_of number keys ≡ Full
       unfolding place_of
-      full_at h =
-          ⊎_elim
-          (λ g. rw none_keyed (rw (le-ltb (first_place unused keys) (length keys) (omega (arith, first_none unused keys (λ j l. g.1 j (omega arith)))))))
-          (λ g. absurd (omega arith))
-          f
+      full_at None e f = rw (none_keyed, le-ltb (first_place unused keys) (length keys) (omega (arith, first_none unused keys (λ j l. f j (omega arith)))))
+      full_at (Some j) e f = absurd (cc)
 
 -- WHAT A PLACE TELLS of the keys
 pub data Tells (number : ℕ) (keys : List ℕ) : Place → Type 0 where
-  holds_it : (i : ℕ) → i < length keys → None (keyed number) keys i → keyed number (get_or keys i 0) ≡ true → Tells number keys (Held i)
-  takes_it : (i : ℕ) → i < length keys → None (keyed number) keys (length keys) → None unused keys i → unused (get_or keys i 0) ≡ true → Tells number keys (New i)
-  no_room : None (keyed number) keys (length keys) → None unused keys (length keys) → Tells number keys Full
+  holds_it : (i : ℕ) → i < length keys → NonePass (keyed number) keys i → keyed number (get_or keys i 0) ≡ true → Tells number keys (Held i)
+  takes_it : (i : ℕ) → i < length keys → NonePass (keyed number) keys (length keys) → NonePass unused keys i → unused (get_or keys i 0) ≡ true → Tells number keys (New i)
+  no_room : NonePass (keyed number) keys (length keys) → NonePass unused keys (length keys) → Tells number keys Full
 
 pub place_told : (number : ℕ) (keys : List ℕ) → Tells number keys (place_of number keys)
 unfolding place_of
 place_told number keys = pick (ltb (first_place (keyed number) keys) (length keys)) refl (ltb (first_place unused keys) (length keys)) refl
   where
-    none_of : (test : ℕ → Bool) → ltb (first_place test keys) (length keys) ≡ false → None test keys (length keys)
+    none_of : (test : ℕ → Bool) → ltb (first_place test keys) (length keys) ≡ false → NonePass test keys (length keys)
     none_of test q j l = before_first test keys j (omega (arith, ltb-false (first_place test keys) (length keys) q))
 
     pick : (b : Bool) → ltb (first_place (keyed number) keys) (length keys) ≡ b → (d : Bool) → ltb (first_place unused keys) (length keys) ≡ d

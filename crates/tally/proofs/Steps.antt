@@ -1,20 +1,35 @@
 -- Counting what a lookup found, one law for each answer.
 -- Assumes nothing.
-use Rattle.std.proofs.Common.{◌≡◌, ℕ, true, false, List, sym, refl, ap, ◌∙◌, eq-eqb, ne_eqb}
-use Rattle.model.proofs.Tests.{never}
-use Rattle.header.specs.Header.{total_length}
+use Rattle.std.proofs.Common.{◌≡◌, ℕ, ◌≤◌, List, length, sym, refl, ap, ◌∙◌, arith}
+use Rattle.std.specs.Prelude.{◌≢◌, Result, Ok, Err}
+use Rattle.refusal.specs.declared.Refusal.{Refusal}
+use Rattle.refusal.specs.declared.Refusal.TheVariants.{NumberTooHigh, WrongRange, NumberTaken, NotThere, TableFull, TooFewCells, Unreadable, NoRoom, Damaged, NoPrefix, ValueTooHigh, NoCapture, TallyFull, Cut, ListLength}
+use Rattle.refusal.specs.Refusals.{number_of}
+use Rattle.header.specs.declared.Packet.{Packet}
+use Rattle.header.specs.Header.{header_of}
+use Rattle.header.proofs.Facts.{values_are}
 use Rattle.lookup.specs.declared.Found.{Found}
-use Rattle.lookup.specs.Walk.{refused, lookup_packet}
+use Rattle.lookup.specs.Walk.{lookup_header, lookup_packet}
 use Rattle.tally.specs.declared.Tallies.{Tallies}
-use Rattle.tally.specs.declared.Place.{Place}
-use Rattle.tally.specs.declared.Place.TheVariants.{Held, New, Full}
-use Rattle.tally.specs.Tally.{place_of, has_place, slot_answer, tallies_with, found_tally, found_tallies, tally_answer, tallies_left}
+use Rattle.tally.specs.Tally.{found_tally, found_tallies, tally_answer, tallies_left}
 
--- where a number has no place, the answer is 13
-placeless : (p : Place) → has_place p ≡ false → slot_answer p ≡ 13
-placeless (Held place) h = never h
-placeless (New place) h = never h
-placeless Full h = refl
+-- a refusal's number is not 0, which means done
+pub numbered : (r : Refusal) → number_of r ≢ 0
+numbered NumberTooHigh = λ z. omega (arith, z)
+numbered WrongRange = λ z. omega (arith, z)
+numbered NumberTaken = λ z. omega (arith, z)
+numbered NotThere = λ z. omega (arith, z)
+numbered TableFull = λ z. omega (arith, z)
+numbered TooFewCells = λ z. omega (arith, z)
+numbered Unreadable = λ z. omega (arith, z)
+numbered NoRoom = λ z. omega (arith, z)
+numbered Damaged = λ z. omega (arith, z)
+numbered NoPrefix = λ z. omega (arith, z)
+numbered ValueTooHigh = λ z. omega (arith, z)
+numbered NoCapture = λ z. omega (arith, z)
+numbered TallyFull = λ z. omega (arith, z)
+numbered Cut = λ z. omega (arith, z)
+numbered ListLength = λ z. omega (arith, z)
 
 -- f is what a lookup by the packet found, n the packet's total length
 module _ (packet : List ℕ) (f : Found) (t : Tallies) where
@@ -22,23 +37,16 @@ module _ (packet : List ℕ) (f : Found) (t : Tallies) where
   abbrev pub Does : Found → Tallies → Type 0
   Does g u = (g ≡ found_tally f t) × (u ≡ found_tallies f packet t)
 
-  pub refused_before : (f.answer ≡ 0 → ⊥) → Does f t
-  refused_before n = simp (ne_eqb _ _ n) (refl, refl)
+-- the lookup in a store's words
+pub store_does : (packet : List ℕ) (f : Found) (t : Tallies) (words : List ℕ) → f ≡ lookup_packet words packet → (g : Found) (u : Tallies) → Does packet f t g u → (g ≡ tally_answer words packet t) × (u ≡ tallies_left words packet t)
+unfolding tally_answer tallies_left
+store_does packet f t words is g u d = rw (← is) d
 
-  abbrev place : Place
-  place = place_of f.rule t.key
-
-  module _ (e : f.answer ≡ 0) (n : ℕ) (total : n ≡ total_length packet) (u : Tallies) (q : u ≡ tallies_with place f.rule n t) where
-    left : u ≡ tallies_with place f.rule (total_length packet) t
-    left = q ∙ ap (λ (m : ℕ). tallies_with place f.rule m t) total
-
-    pub counts : has_place place ≡ true → Does f u
-    counts h = simp (eq-eqb _ _ e, h) (refl, left)
-
-    pub no_place : has_place place ≡ false → Does (refused 13) u
-    no_place h = simp (eq-eqb _ _ e, h) (ap refused (sym (placeless place h)), left)
-
-  -- the lookup in a store's words
-  pub store_does : (words : List ℕ) → f ≡ lookup_packet words packet → (g : Found) (u : Tallies) → Does g u → (g ≡ tally_answer words packet t) × (u ≡ tallies_left words packet t)
-  unfolding tally_answer tallies_left
-  store_does words is g u d = rw (← is) d
+-- values are of a header that is long enough to have a total length
+pub long : (words packet : List ℕ) {f : Found} → f ≡ lookup_packet words packet → f.answer ≡ 0 → 20 ≤ length packet
+unfolding lookup_packet
+long words packet is e = by_header (header_of packet) refl (ap (λ (g : Found). g.answer) (sym is) ∙ e)
+  where
+    by_header : (h : Result Packet Refusal) → header_of packet ≡ h → (lookup_header words h).answer ≡ 0 → 20 ≤ length packet
+    by_header (Ok p) q e = (values_are packet p q).0.sound.long
+    by_header (Err r) q e = absurd (numbered r e)

@@ -1,11 +1,12 @@
 // Tallies for each rule: how many packets it decided, and how many bytes they had. The lookup here is the lookup by a packet, and adds to the tally of the rule that decides.
 #![tactic(auto)]
 
-ghost use Rattle.std.specs.Prelude.{◌≡◌, ◌<◌, ◌≤◌, length, if◌then◌else◌, nat_lt};
-ghost use Rattle.tally.specs.Tally.{unused, keyed, place_of, added_at, has_place, tallies_with, found_tally, found_tallies, tally_answer, tallies_left, tallies, cleared, difference as difference_of};
+ghost use Rattle.std.specs.Prelude.{◌≡◌, ◌<◌, ◌≤◌, length};
+ghost use Rattle.refusal.specs.Refusals.{answer_of};
+ghost use Rattle.tally.specs.Tally.{place_of, added_at, added_in, begun_in, slot_answer, tallies_with, found_tally, found_tallies, tally_answer, tallies_left, cleared, difference as difference_of};
 
-use header::Header;
 use lookup::Found;
+use refusal::Refusal;
 
 // The places of a tally record: one for each rule of a full table, and one for the default.
 pub const PLACES: usize = 513;
@@ -27,143 +28,109 @@ pub enum Place {
     Full,
 }
 
-// Whether a place with this key holds the number.
-fn holds(key: u32, number: u32) -> bool
-    ensures { result ≡ keyed number key }
-{
-    if key != number {
-        return false;
-    }
-    key <= 65535
-}
-
-// The first unused place, where the one so far is given, or n for none, and the next place has this key.
-fn unused_yet(free: usize, n: usize, place: usize, key: u32) -> usize
-    ensures { result ≡ (if unused key then (if nat_lt free n then free else place) else free) }
-{
-    if key <= 65535 {
-        return free;
-    }
-    if free < n { free } else { place }
-}
-
 // Where a number counts. The keys are gone through once.
-fn place_of(key: &[u32], number: u32) -> Place
-    ensures { result ≡ place_of number key.now }
+fn place_of(keys: &[u32], number: u32) -> Place
+    ensures { result ≡ place_of number keys.now }
 {
-    let n = key.len();
-    let mut free = n;
-    let mut i: usize = 0;
-    while i < n {
-        let k = key[i];
-        if holds(k, number) {
+    let mut free = None;
+    for (i, key) in keys.iter().enumerate() {
+        if 65535 < *key {
+            free = free.or(Some(i));
+        } else if *key == number {
             return Place::Held(i);
         }
-        free = unused_yet(free, n, i, k);
-        i += 1;
     }
-    if free < n {
-        Place::New(free)
-    } else {
-        Place::Full
+    match free {
+        Some(place) => Place::New(place),
+        None => Place::Full,
     }
 }
 
 // Adds to one of the counts, which starts again at zero after 4,294,967,295.
+#[tactic(auto, unfolding(crate::specs::Tally::plus))]
 fn add(counts: &mut [u32; PLACES], place: usize, n: u32)
     requires { place < 513 }
     ensures { counts.new ≡ added_at place n counts.old }
 {
-    counts[place] = std::num::wrapping_add_u32(counts[place], n);
+    counts[place] = counts[place].wrapping_add(n);
 }
 
-// Counts a packet of so many bytes for a rule's number, with the record in three arrays. It says whether the number has a place; where it has none, nothing is changed.
-fn count(
-    key: &mut [u32; PLACES],
-    packets: &mut [u32; PLACES],
-    bytes: &mut [u32; PLACES],
-    number: u32,
-    length: u32,
-) -> bool
-    ensures { (result ≡ has_place (place_of number key.old)) × (tallies key.new packets.new bytes.new ≡ tallies_with (place_of number key.old) number length (tallies key.old packets.old bytes.old)) }
-{
-    match place_of(key, number) {
-        Place::Held(place) => {
-            add(packets, place, 1);
-            add(bytes, place, length);
-            true
+impl Tallies {
+    // Adds a packet of so many bytes at a place.
+    fn add(&mut self, place: usize, length: u32)
+        requires { place < 513 }
+        ensures { self.new ≡ added_in place length self.old }
+    {
+        add(&mut self.packets, place, 1);
+        add(&mut self.bytes, place, length);
+    }
+
+    // A number takes a place, and counts from zero.
+    fn begin(&mut self, place: usize, number: u32)
+        requires { place < 513 }
+        ensures { self.new ≡ begun_in place number self.old }
+    {
+        self.key[place] = number;
+        self.packets[place] = 0;
+        self.bytes[place] = 0;
+    }
+
+    // Counts a packet of so many bytes for a rule's number. Where the number finds no place, that is refused, and nothing is changed.
+    fn count(&mut self, number: u32, length: u32) -> Result<(), Refusal>
+        ensures answer { answer_of result ≡ slot_answer (place_of number self.old.key) }
+        ensures left { self.new ≡ tallies_with (place_of number self.old.key) number length self.old }
+    {
+        match place_of(&self.key, number) {
+            Place::Held(place) => {
+                self.add(place, length);
+                Ok(())
+            }
+            Place::New(place) => {
+                self.begin(place, number);
+                self.add(place, length);
+                Ok(())
+            }
+            Place::Full => Err(Refusal::TallyFull),
         }
-        Place::New(place) => {
-            key[place] = number;
-            packets[place] = 0;
-            bytes[place] = 0;
-            add(packets, place, 1);
-            add(bytes, place, length);
-            true
+    }
+
+    // Counts what a lookup by a packet found: for the rule that decides it adds one packet and the packet's total length. 13 where the rule's number finds no place; then, and where the lookup was refused, nothing is changed.
+    pub fn count_found(&mut self, found: Found, packet: &[u8]) -> Found
+        requires { found.answer ≡ 0 → 20 ≤ length packet.now }
+        ensures answer { result ≡ found_tally found self.old }
+        ensures left { self.new ≡ found_tallies found packet.now self.old }
+    {
+        if found.answer != 0 {
+            return found;
         }
-        Place::Full => false,
+        match self.count(found.rule, header::packet_length(packet)) {
+            Ok(()) => found,
+            Err(refusal) => Found::refused(refusal),
+        }
+    }
+
+    // Clears the record: every place is unused, and every count is 0.
+    pub fn clear(&mut self)
+        ensures { self.new ≡ cleared }
+    {
+        self.key = [4294967295; PLACES];
+        self.packets = [0; PLACES];
+        self.bytes = [0; PLACES];
     }
 }
 
-// Counts what a lookup by a packet found, with the record in three arrays: for the rule that decides it adds one packet and the packet's total length. 13 where the rule's number finds no place; then, and with every other refusal, nothing is changed.
-pub fn count_found(
-    found: Found,
-    packet: &[u8],
-    key: &mut [u32; PLACES],
-    packets: &mut [u32; PLACES],
-    bytes: &mut [u32; PLACES],
-) -> Found
-    requires { found.answer ≡ 0 → 20 ≤ length packet.now }
-    ensures { (result ≡ found_tally found (tallies key.old packets.old bytes.old)) × (tallies key.new packets.new bytes.new ≡ found_tallies found packet.now (tallies key.old packets.old bytes.old)) }
+// The lookup of an IPv4 packet in a store's words, with a tally record: for the rule that decides it adds one packet and the packet's total length. 13 where the rule's number finds no place; then, and with every other refusal, nothing is changed.
+pub fn lookup_packet(words: &[u32], packet: &[u8], tallies: &mut Tallies) -> Found
+    ensures answer { result ≡ tally_answer words.now packet.now tallies.old }
+    ensures left { tallies.new ≡ tallies_left words.now packet.now tallies.old }
 {
-    if found.answer != 0 {
-        return found;
-    }
-    let length = header::packet_length(packet);
-    if count(key, packets, bytes, found.rule, length) {
-        return found;
-    }
-    lookup::refuse(13)
-}
-
-// The lookup of an IPv4 packet in a store's words, with the record in three arrays: for the rule that decides it adds one packet and the packet's total length. 13 where the rule's number finds no place; then, and with every other refusal, nothing is changed.
-pub fn lookup_packet(
-    words: &[u32],
-    packet: &[u8],
-    key: &mut [u32; PLACES],
-    packets: &mut [u32; PLACES],
-    bytes: &mut [u32; PLACES],
-) -> Found
-    ensures { (result ≡ tally_answer words.now packet.now (tallies key.old packets.old bytes.old)) × (tallies key.new packets.new bytes.new ≡ tallies_left words.now packet.now (tallies key.old packets.old bytes.old)) }
-{
-    let h = header::read_header(packet);
-    let Header::Values(p) = h else {
-        return lookup::refuse(header::answer(h));
-    };
-    let found = lookup::lookup(
-        words,
-        p.destination,
-        p.source,
-        p.protocol,
-        p.destination_port,
-        p.source_port,
-        p.portless,
-    );
-    count_found(found, packet, key, packets, bytes)
-}
-
-// Clears a record in three arrays: every place is unused, and every count is 0.
-pub fn clear(key: &mut [u32; PLACES], packets: &mut [u32; PLACES], bytes: &mut [u32; PLACES])
-    ensures { tallies key.new packets.new bytes.new ≡ cleared }
-{
-    *key = [4294967295; PLACES];
-    *packets = [0; PLACES];
-    *bytes = [0; PLACES];
+    tallies.count_found(lookup::lookup_packet(words, packet), packet)
 }
 
 // What was added to a count between two readings of it, if that was less than 4,294,967,296 and the tally was not dropped in between.
+#[tactic(auto, unfolding(crate::specs::Tally::difference))]
 pub fn difference(earlier: u32, later: u32) -> u32
     ensures { result ≡ difference_of earlier later }
 {
-    std::num::wrapping_sub_u32(later, earlier)
+    later.wrapping_sub(earlier)
 }

@@ -2,7 +2,7 @@
 -- Assumes nothing.
 use mathlib.Core.Path.{◌≡◌, refl, sym, ap, ◌∙◌}
 use mathlib.Core.Bool.{Bool, true, false, not}
-use mathlib.Core.List.{List, [], ◌∷◌}
+use mathlib.Core.List.{List}
 use Prim.Native.Nat.{ℕ, ◌+◌, ◌-◌, ◌*◌, ◌/◌, ◌≤◌, ◌<◌}
 use native.Mathlib.Omega.{arith}
 use lib.Dec.{ltb, eqb}
@@ -17,31 +17,14 @@ use Rattle.model.proofs.UpTo.{same_true, true_same, same_false}
 use Rattle.rows.specs.Rows.{field_at, tree_at, Flat}
 use Rattle.cells.specs.States.{Narrows}
 use Rattle.cells.proofs.Lent.{lent}
-use Rattle.blocks.specs.Blocks.{down_mark, depth, blocks_up, blocks, tree_blocks, blocks_text}
+use Rattle.blocks.specs.Blocks.{down_mark, depth, parts, blocks_up, blocks, tree_blocks, blocks_text}
 use Rattle.blocks.specs.Written.{end_place, link_place}
 use Rattle.blocks.proofs.Levels.{depth_low}
 use Rattle.blocks.proofs.Words.{image_length}
 use Rattle.blocks.proofs.Writing.{size_last, lay_last}
-use Rattle.levels.specs.declared.Ends.{Ends}
-use Rattle.levels.specs.declared.Ends.TheVariants.{At, Differ}
-use Rattle.levels.specs.declared.Told.{Told}
-use Rattle.levels.specs.declared.Told.TheVariants.{Same, Differs}
-use Rattle.levels.specs.Levels.{Stands, Stood, Low, One, Answers, Tells, TellsEnds}
+use Rattle.levels.specs.Levels.{Stands, Stood, One, Answers}
 use Rattle.levels.proofs.Levels.{said_yes, said_no}
 use Rattle.levels.proofs.Chain.{ends_at, Looks, looks_start, looks_no, looks_on, looks_done, has_below, has_ends, low_short}
-
--- an answer that is known
-told_same : (r : Told) (w : List ℕ) (a : ℕ) (t : Tree ℕ) {past to : ℕ} → Tells r w a t → r ≡ Same past to → Stood w a t past to
-told_same r w a t h e = rw e at h
-
-told_differs : (r : Told) (w : List ℕ) (a : ℕ) (t : Tree ℕ) → Tells r w a t → r ≡ Differs → Stands w a t → ⊥
-told_differs r w a t h e = rw e at h
-
-pub ends_same : (r : Ends) (w rules : List ℕ) (f : ℕ) (ps : List ℕ) (a : ℕ) {m base : ℕ} → TellsEnds r w rules f ps a → r ≡ At m base → Low w rules f ps a m base
-ends_same r w rules f ps a h e = rw e at h
-
-pub ends_differ : (r : Ends) (w rules : List ℕ) (f : ℕ) (ps : List ℕ) (a : ℕ) → TellsEnds r w rules f ps a → r ≡ Differ → (left : ℕ) → (left ≡ 0 → ⊥) → Stands w a (tree_at rules f left ps) → ⊥
-ends_differ r w rules f ps a h e = rw e at h
 
 -- where all rules have one range from 0 the chain is one block, and the same rules are below its end
 module _ (w : List ℕ) (a : ℕ) {rules : List ℕ} {f left : ℕ} {ps : List ℕ} {e : ℕ} (nz : left ≡ 0 → ⊥) (l : Flat rules f ps e) (few : length w ≤ 16777216) (x : Bool) (r : Answers x (One w a e)) where
@@ -51,41 +34,40 @@ module _ (w : List ℕ) (a : ℕ) {rules : List ℕ} {f left : ℕ} {ps : List �
   one_block : 1 ≡ blocks_up (depth 1) 1
   one_block = sym (size_last (depth 1) 1 (depth_low 1 (omega arith)))
 
+  size : 1 ≡ parts 1
+  size = omega arith
+
+  total : a + 1 ≡ a + blocks_up (depth 1) 1
+  total = omega (arith, one_block)
+
   pub flat_no : not x ≡ true → 16 * a ≤ length w → Stands w a (tree_at rules f left ps) → ⊥
   flat_no d h v =
-      let z : a + 1 - 1 ≡ a = omega arith in
       said_no x _ d r (record {
         room = by_test (ltb (length w / 16) (a + 1))
-            (λ t. absurd (low_short w rules f ps a 1 (e ∷ []) one_end (sym l.one) one_block left nz v h (ltb-true (length w / 16) (a + 1) t)))
+            (λ t. absurd (low_short w rules f ps a 1 one_end a 1 size total left nz v h (ltb-true (length w / 16) (a + 1) t)))
             (λ t. omega (arith, ltb-false (length w / 16) (a + 1) t));
-        stand = rw z at (has_ends w rules f ps a 1 (e ∷ []) one_end (sym l.one) one_block left nz v);
+        stand = rw l.one at (has_ends w rules f ps a 1 one_end a 1 size total left nz v);
       })
 
   module _ (d : not x ≡ false) where
     one : One w a e
     one = said_yes x _ d r
 
-    pub flat_room : 16 * (a + 1) ≤ length w
-    flat_room = one.room
-
     start : Looks w rules f left ps a 1 a 0 (a + 1)
-    start = looks_start (record { count = one_end; total = omega (arith, one_block); room = one.room; stand = rw l.one one.stand }) nz few
+    start = looks_start (record { count = one_end; total = total; room = one.room; stand = rw l.one one.stand }) nz few
 
     the_word : e ≡ get_or w (end_place a 0) 0
     the_word = sym (one.stand.end 0 (omega arith))
 
-    module _ (y : Told) (h : Tells y w (a + 1) (tree_at rules (f + 1) (left - 1) ps)) where
-      pub flat_not : y ≡ Differs → Stands w a (tree_at rules f left ps) → ⊥
-      flat_not c v = told_differs y w (a + 1) _ h c (has_below start (omega arith) the_word (sym l.all) v)
+    pub flat_not : (Stands w (a + 1) (tree_at rules (f + 1) (left - 1) ps) → ⊥) → Stands w a (tree_at rules f left ps) → ⊥
+    flat_not h v = h (has_below start (omega arith) the_word (sym l.all) v)
 
-      module _ {past to : ℕ} (u : y ≡ Same past to) {z : Bool} (g : z ≡ eqb (get_or w (link_place a 0) 0) (down_mark + to)) where
-        pub flat_no_link : not z ≡ true → Stands w a (tree_at rules f left ps) → ⊥
-        flat_no_link = looks_no start (omega arith) the_word (sym l.all) (told_same y w (a + 1) _ h u) g
+    module _ {past to : ℕ} (h : Stood w (a + 1) (tree_at rules (f + 1) (left - 1) ps) past to) {z : Bool} (g : z ≡ eqb (get_or w (link_place a 0) 0) (down_mark + to)) where
+      pub flat_no_link : not z ≡ true → Stands w a (tree_at rules f left ps) → ⊥
+      flat_no_link = looks_no start (omega arith) the_word (sym l.all) h g
 
-        pub flat_same : not z ≡ false → Stood w a (tree_at rules f left ps) past a
-        flat_same c =
-            looks_done (looks_on start (omega arith) the_word (sym l.all) (told_same y w (a + 1) _ h u) g c) (omega arith) true refl
-            (λ i j s q. q.is ∙ sym (lay_last (depth 1) a 1 i j s (depth_low 1 (omega arith))))
+      pub flat_same : not z ≡ false → Stood w a (tree_at rules f left ps) past a
+      flat_same c = looks_done (looks_on start (omega arith) the_word (sym l.all) h g c) (omega arith) true refl (λ i j s q. q.is ∙ sym (lay_last (depth 1) a 1 i j s (depth_low 1 (omega arith))))
 
 -- where the loop of chain_is stands, over sets and ends that stood at its start: the set stays
 pub record Looking (w rules sets₀ sets ends₀ ends' : List ℕ) (n f left a m base i b : ℕ) : Type 0 where
@@ -104,22 +86,21 @@ pub record Turn (w rules sets₀ sets sets' ends₀ ends' : List ℕ) (n k f lef
   pub fits : n ≤ length sets
   pub inside : i < m
 
-module _ {w rules sets₀ sets sets' ends₀ ends' : List ℕ} {n k f left a m base i b : ℕ} (o : Turn w rules sets₀ sets sets' ends₀ ends' n k f left a m base i b)
-    (r : Told) (h : Tells r w b (tree_at rules (f + 1) (left - 1) (take k (mid_of n (length sets' - n) sets')))) where
+module _ {w rules sets₀ sets sets' ends₀ ends' : List ℕ} {n k f left a m base i b : ℕ} (o : Turn w rules sets₀ sets sets' ends₀ ends' n k f left a m base i b) where
   next_places : take k (mid_of n (length sets' - n) sets') ≡ keep (covers (field_at rules f) o.e) (take n sets₀)
   next_places = rw (lent n sets' (omega (arith, o.long, o.fits))) (rw o.so_far.set_kept at o.narrows.next)
 
-  pub turn_not : r ≡ Differs → Stands w a (tree_at rules f left (take n sets₀)) → ⊥
-  turn_not d v = told_differs r w b _ h d (has_below o.so_far.looks o.inside o.is_end next_places v)
+  pub turn_not : (Stands w b (tree_at rules (f + 1) (left - 1) (take k (mid_of n (length sets' - n) sets'))) → ⊥) → Stands w a (tree_at rules f left (take n sets₀)) → ⊥
+  turn_not h v = h (has_below o.so_far.looks o.inside o.is_end next_places v)
 
-  module _ {past to : ℕ} (u : r ≡ Same past to) {x : Bool} (g : x ≡ eqb (get_or w (link_place base i) 0) (down_mark + to)) where
+  module _ {past to : ℕ} (h : Stood w b (tree_at rules (f + 1) (left - 1) (take k (mid_of n (length sets' - n) sets'))) past to) {x : Bool} (g : x ≡ eqb (get_or w (link_place base i) 0) (down_mark + to)) where
     pub turn_no : not x ≡ true → Stands w a (tree_at rules f left (take n sets₀)) → ⊥
-    turn_no = looks_no o.so_far.looks o.inside o.is_end next_places (told_same r w b _ h u) g
+    turn_no = looks_no o.so_far.looks o.inside o.is_end next_places h g
 
     pub turn_on : not x ≡ false → (ys : List ℕ) {ends2 : List ℕ} → length (put_mid n (length sets' - n) sets' ys) ≡ length sets' → length ends2 ≡ length ends'
         → Looking w rules sets₀ (put_mid n (length sets' - n) sets' ys) ends₀ ends2 n f left a m base (i + 1) past
     turn_on t ys l1 l2 = record {
-      looks = looks_on o.so_far.looks o.inside o.is_end next_places (told_same r w b _ h u) g t;
+      looks = looks_on o.so_far.looks o.inside o.is_end next_places h g t;
       set_kept = take_put n (length sets' - n) sets' ys (omega (arith, o.long, o.fits)) ∙ o.narrows.kept ∙ o.so_far.set_kept;
       sets_long = l1 ∙ o.long ∙ o.so_far.sets_long;
       ends_long = l2 ∙ o.so_far.ends_long;
@@ -133,20 +114,13 @@ module _ (w : List ℕ) (t : Tree ℕ) where
       let z : 16 * (0 + blocks t) ≡ length w = omega (arith, ap length e, image_length t) in
       e ∙ sym (ap (tree_blocks t 0) (ap (λ x. drop x w) z ∙ drop-length w))
 
-  module _ (r : Told) (h : Tells r w 0 t) where
-    pub tree_differs : r ≡ Differs → false ≡ same w (blocks_text t)
-    tree_differs d = sym (same_false w (blocks_text t) (λ e. told_differs r w 0 t h d (image_stands e)))
+  pub tree_differs : (Stands w 0 t → ⊥) → false ≡ same w (blocks_text t)
+  tree_differs h = sym (same_false w (blocks_text t) (λ e. h (image_stands e)))
 
-    module _ {past to : ℕ} (u : r ≡ Same past to) where
-      pub tree_room : 16 * past ≤ length w
-      tree_room = (told_same r w 0 t h u).fits
-
-      pub tree_same : eqb (16 * past) (length w) ≡ same w (blocks_text t)
-      unfolding blocks_text
-      tree_same =
-          let s = told_same r w 0 t h u in
-          same_test _ _
-          (λ y.
-          let z : 16 * (0 + blocks t) ≡ length w = omega (arith, s.next, eqb-true (16 * past) (length w) y) in
-          true_same w (blocks_text t) (s.is ∙ ap (tree_blocks t 0) (ap (λ x. drop x w) z ∙ drop-length w)))
-          (λ y. eq-eqb (16 * past) (length w) (omega (arith, s.next, ap length (same_true w (blocks_text t) y), image_length t)))
+  pub tree_same : {past to : ℕ} → Stood w 0 t past to → eqb (16 * past) (length w) ≡ same w (blocks_text t)
+  unfolding blocks_text
+  tree_same {past} s = same_test _ _
+      (λ y.
+      let z : 16 * (0 + blocks t) ≡ length w = omega (arith, s.next, eqb-true (16 * past) (length w) y) in
+      true_same w (blocks_text t) (s.is ∙ ap (tree_blocks t 0) (ap (λ x. drop x w) z ∙ drop-length w)))
+      (λ y. eq-eqb (16 * past) (length w) (omega (arith, s.next, ap length (same_true w (blocks_text t) y), image_length t)))

@@ -7,95 +7,82 @@ ghost use Rattle.rows.specs.Rows.{tree_at, Scratch};
 ghost use Rattle.blocks.specs.Blocks.{blocks_text};
 ghost use Rattle.levels.specs.Levels.{Tells};
 
-use levels::{Ends, Told};
+use levels::Found;
+use rows::Rows;
 
 // Whether the blocks from block a on are those of the tree of the rules of the set, which is the first n numbers of sets, over left fields from field on. Where all rules have one range from 0, the chain is one block, with the same rules below its end. Else it is looked at end by end. The ends of each chain in turn are written beside.
 #[cycle(chain_is_run_is)]
 fn chain_is(
     words: &[u32],
-    rules: &[u32],
+    rows: &Rows,
     sets: &mut [u16],
     n: usize,
     field: u32,
     left: u32,
     a: usize,
     ends: &mut [u32],
-) -> Told
+) -> Option<Found>
     requires { (16 * a ≤ length words.now) × (length words.now ≤ 16777216) × Scratch n left sets.old ends.old × (field + left ≤ 64) }
-    ensures { Tells result words.now a (tree_at rules.now field left (take n sets.old)) }
+    ensures { Tells result words.now a (tree_at rows.now field left (take n sets.old)) }
 {
     let set = &sets[..n];
+    let first = rows::first_place(set);
     if left == 0 {
-        return Told::Same(a, rows::first_place(set));
+        return Some(Found { past: a, to: first });
     }
-    let none = &rules[..0];
-    let high = rows::high(rules, none, rows::first_place(set), field);
-    if rows::flat(rules, none, set, field, high) {
+    let high = rows.high(first, field);
+    if rows.flat(set, field, high) {
         if !levels::one_is(words, a, high) {
-            return Told::Differs;
+            return None;
         }
-        let Told::Same(past, to) = chain_is(words, rules, sets, n, field + 1, left - 1, a + 1, ends)
-        else {
-            return Told::Differs;
-        };
-        if !levels::down_is(words, a, 0, to) {
-            return Told::Differs;
+        let below = chain_is(words, rows, sets, n, field + 1, left - 1, a + 1, ends)?;
+        if !levels::down_is(words, a, 0, below.to) {
+            return None;
         }
-        return Told::Same(past, a as u32);
+        return Some(Found {
+            past: below.past,
+            to: a as u32,
+        });
     }
-    run_is(words, rules, sets, n, field, left, a, ends)
+    run_is(words, rows, sets, n, field, left, a, ends)
 }
 
 // As chain_is, where a field is left, end by end: first the ends of the chain; then, for each of them, what is below it, which begins at block b, and the link to that; then the levels above the ends. The set of the rules below an end is written behind this one. It and chain_is call each other, and the number of fields left falls.
 #[cycle(chain_is_run_is)]
 fn run_is(
     words: &[u32],
-    rules: &[u32],
+    rows: &Rows,
     sets: &mut [u16],
     n: usize,
     field: u32,
     left: u32,
     a: usize,
     ends: &mut [u32],
-) -> Told
+) -> Option<Found>
     requires { (0 < left) × (16 * a ≤ length words.now) × (length words.now ≤ 16777216) × Scratch n left sets.old ends.old × (field + left ≤ 64) }
-    ensures { Tells result words.now a (tree_at rules.now field left (take n sets.old)) }
+    ensures { Tells result words.now a (tree_at rows.now field left (take n sets.old)) }
 {
     let set = &sets[..n];
-    let Ends::At(m, base) = levels::low_is(words, rules, set, field, a, ends) else {
-        return Told::Differs;
-    };
+    let chain = levels::low_is(words, rows, set, field, a, ends)?;
     if left == 1 {
-        return levels::last_is(words, rules, set, field, a, m, base);
+        return levels::last_is(words, rows, set, field, chain);
     }
-    let none = &rules[..0];
-    let mut b = base + (m + 7) / 8;
-    let mut i: usize = 0;
-    while i < m {
-        let e = levels::end_at(words, base, i);
-        let k = rows::narrow(rules, none, sets, n, field, e);
-        let Told::Same(past, to) = chain_is(
-            words,
-            rules,
-            &mut sets[n..],
-            k,
-            field + 1,
-            left - 1,
-            b,
-            ends,
-        ) else {
-            return Told::Differs;
-        };
-        if !levels::down_is(words, base, i, to) {
-            return Told::Differs;
+    let first = chain.lowest.first;
+    let mut b = chain.lowest.past();
+    for i in 0..chain.ends {
+        let e = levels::end_at(words, first, i);
+        let k = rows.narrow(sets, n, field, e);
+        let below = chain_is(words, rows, &mut sets[n..], k, field + 1, left - 1, b, ends)?;
+        if !levels::down_is(words, first, i, below.to) {
+            return None;
         }
-        b = past;
-        i += 1;
+        b = below.past;
     }
-    if !levels::upper_is(words, a, base, m) {
-        return Told::Differs;
+    if !levels::upper_is(words, chain) {
+        return None;
     }
-    Told::Same(b, a as u32)
+    let root = a as u32;
+    Some(Found { past: b, to: root })
 }
 
 // Whether the words are exactly the blocks of the tree of the rules of the set, which is the first n numbers of sets, over the fields. The other numbers of sets, and ends, are scratch.
@@ -110,8 +97,9 @@ pub fn tree_is(
     requires { (length words.now ≤ 16777216) × Scratch n fields sets.old ends.old × (fields ≤ 62) }
     ensures { result ≡ same words.now (blocks_text (tree_at rules.now 0 fields (take n sets.old))) }
 {
-    let Told::Same(past, _) = chain_is(words, rules, sets, n, 0, fields, 0, ends) else {
-        return false;
-    };
-    16 * past == words.len()
+    let rows = Rows::of(rules);
+    match chain_is(words, &rows, sets, n, 0, fields, 0, ends) {
+        Some(found) => 16 * found.past == words.len(),
+        None => false,
+    }
 }

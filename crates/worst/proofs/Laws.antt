@@ -3,17 +3,16 @@
 use mathlib.Core.Path.{◌≡◌, refl, sym, ap, ◌∙◌}
 use mathlib.Core.Bool.{true, false}
 use mathlib.Core.List.{List, ◌∷◌}
-use Prim.Native.Nat.{ℕ, suc, ◌+◌, ◌-◌, ◌*◌, ◌≤◌}
+use Prim.Native.Nat.{ℕ, suc, ◌+◌, ◌-◌, ◌≤◌}
 use native.Mathlib.Omega.{arith}
-use lib.ListN.{length, get_or, take, drop}
+use lib.ListN.{length, get_or}
 use borrow.Author.Tests.{le-leb}
 use Rattle.model.specs.Rules.{Tree, names, stop, loc}
-use Rattle.model.specs.Table.{Kind, Rule, Shaped, row_words, tree_of, within}
+use Rattle.model.specs.Table.{Kind, Rule, Shaped, tree_of, within}
 use Rattle.table.specs.Rows.{rows_text, rule_in}
 use Rattle.layout.specs.Named.{rename, stored}
-use Rattle.layout.specs.Store.{cells_in, table_of, passes}
+use Rattle.layout.specs.Store.{cells_in, part_of, table_of, passes}
 use Rattle.layout.proofs.Bridge.{bridge}
-use Rattle.layout.proofs.Parts.{part_slice}
 use Rattle.layout.proofs.Sound.{sound, Roomy}
 use Rattle.layout.proofs.Passed.{sound_within, sound_room}
 use Rattle.search.specs.Search.{most, first, nothing, most_reads, first_worst}
@@ -68,15 +67,11 @@ module _ (k : Kind) (s : Shaped k) (ws : List ℕ) (p : passes k ws ≡ true) wh
   tells : (peak (tree_of k (table_of k ws)) ≡ suc (most_reads k (table_of k ws))) × (summit 0 (tree_of k (table_of k ws)) ≡ first_worst k (table_of k ws))
   tells = as_far (topped_of k (table_of k ws) right)
 
-  -- WHAT THE CODE FINDS, over the part as it takes it: E is its end of the rows
-  module _ (E : ℕ) (g : E ≡ k.head + row_words k) (r : ℕ) (none out : List ℕ) where
-    -- the part
-    abbrev P : List ℕ
-    P = take (E + (2 + 8 * cells_in ws) - E) (drop E ws)
-
+  -- WHAT THE CODE FINDS over the part P of the words
+  module _ (P : List ℕ) (g : P ≡ part_of k (cells_in ws) ws) (r : ℕ) (none out : List ℕ) where
     -- the tree that the words give
     tree_is : tree_in P (cells_in ws) (length k.tops) (get_or P 1 0) ≡ stored k (table_of k ws)
-    tree_is = rw (part_slice k ws E g (cells_in ws)) (ties.tree k s ws p)
+    tree_is = rw g (ties.tree k s ws p)
 
     names_of : ℕ → Rule
     names_of = rule_in (length k.tops) (rows_text k (table_of k ws))

@@ -1,13 +1,11 @@
 -- Reading a file back that is written by the calls, over the definitions of specs/Back.antt.
 -- Assumes nothing.
-use Rattle.std.specs.Prelude.{ℕ, zero, suc, ◌+◌, ◌*◌, ◌/◌, ◌%◌, ◌≤◌, ◌<◌, ◌≡◌, refl, Bool, true, false, cond, List, [], ◌∷◌, ◌++◌, ltb, eqb, length, take, drop}
+use Rattle.std.specs.Prelude.{ℕ, zero, suc, ◌+◌, ◌*◌, ◌/◌, ◌%◌, ◌≤◌, ◌<◌, ◌≡◌, refl, Bool, true, false, cond, Some, Ok, List, [], ◌∷◌, ◌++◌, ltb, eqb, length, take, drop}
 use Rattle.std.proofs.Common.{sym, ap, subst, ◌∙◌, append_assoc, append-nil, div-add-mod', mod-eq_of_lt, arith, le-leb, le-ltb, ltb-false, eqb-true, length-append, length-drop, drop-drop}
 use Rattle.std.proofs.Math.Nat.{div-div-eq-div-mul}
 use Rattle.std.proofs.Math.Seq.{take-append_seam, drop-append_seam}
 use Rattle.octets.specs.declared.Order.TheVariants.{Little}
 use Rattle.octets.specs.Octets.{word}
-use Rattle.capture.specs.declared.Opened.TheVariants.{Capture}
-use Rattle.capture.specs.declared.Next.TheVariants.{Data}
 use Rattle.capture.specs.Pcap.{opened, next_of}
 use Rattle.capture.specs.Cases.{edge, whole}
 use Rattle.capture.specs.Accepts.{accepts}
@@ -28,15 +26,15 @@ little_word n h =
     sums : (n a x b y c z : ℕ) → a * 256 + x ≡ n → b * 256 + y ≡ a → c * 256 + z ≡ b → (c * 256 + z) * 65536 + (y * 256 + x) ≡ n
     sums n a x b y c z e f g = omega arith
 
-header_opened : (r : List ℕ) → opened (file_header ++ r) ≡ Capture Little
+header_opened : (r : List ℕ) → opened (file_header ++ r) ≡ Some Little
 header_opened r = (accepts (file_header ++ r) Little).1 (record { long = omega arith; start = refl; major = refl; minor = refl; link = refl })
 
 module _ (p : Packet) (r : List ℕ) (n : Numbers p) (h : length p.row ≤ 16384) where
   -- its header leads to its data
-  leads : next_of Little (take 16 (packet_bytes p ++ r)) ≡ Data (length p.row)
+  leads : next_of Little (take 16 (packet_bytes p ++ r)) ≡ Ok (length p.row)
   leads =
       let e : word Little (little_bytes (length p.row)) 0 ≡ length p.row = little_word (length p.row) (omega arith) in
-      sym (whole Little (take 16 (packet_bytes p ++ r)) (λ z. omega arith) (omega arith) (omega arith)) ∙ ap (λ k. Data k) e
+      sym (whole Little (take 16 (packet_bytes p ++ r)) (λ z. omega arith) (omega arith) (omega arith)) ∙ ap (λ k. Ok k) e
 
   -- and it is the packet in front
   in_front : front Little (packet_bytes p ++ r) (length p.row) ≡ p

@@ -1,17 +1,15 @@
 -- The packets of a capture: its records as the reader of `capture` goes through them, each with the numbers of its header.
 -- Assumes nothing.
 use Prim.Native.Nat.{ℕ, zero, suc, ◌≤◌}
-use Rattle.std.specs.Prelude.{◌≡◌, Bool, true, false, cond, leb, length, take, drop}
+use Rattle.std.specs.Prelude.{◌≡◌, Bool, true, false, cond, Option, Some, None, Result, Ok, Err, leb, length, take, drop}
 use Rattle.std.proofs.Math.Path.{refl, sym}
 use Rattle.std.proofs.Common.{ap, ◌∙◌, arith, length-drop}
 use mathlib.Core.List.{List, [], ◌∷◌, map}
 use Rattle.octets.specs.declared.Order.{Order}
 use Rattle.octets.specs.Octets.{word}
-use Rattle.capture.specs.declared.Opened.{Opened}
-use Rattle.capture.specs.declared.Opened.TheVariants.{Capture, Refused}
-use Rattle.capture.specs.declared.Next.{Next}
-use Rattle.capture.specs.declared.Next.TheVariants.{Edge, Cut, TooLong, Data}
-use Rattle.capture.specs.Pcap.{opened, open_answer, next_of, Listing, ended, listed, records_in, records, after, Reading, no_capture, read, reading_by, reading}
+use Rattle.capture.specs.declared.End.{End}
+use Rattle.capture.specs.declared.End.TheVariants.{Edge, Cut}
+use Rattle.capture.specs.Pcap.{opened, open_answer, next_of, ending_of, Listing, ended, listed, records_in, records, after, Reading, no_capture, read, reading_by, reading}
 use Rattle.capture.specs.Cases.{edge}
 use Rattle.capture.specs.Steps.{step}
 
@@ -39,11 +37,9 @@ abbrev pub front : Order → List ℕ → ℕ → Packet
 front o s n = record { seconds = word o s 0; fraction = word o s 4; original = word o s 12; row = take n (drop 16 s) }
 
 -- what the bytes s hold, by what comes next; `others` says it of the bytes behind a record
-abbrev pub follow : Order → List ℕ → (List ℕ → Packets) → Next → Packets
-follow o s others Edge = none 0
-follow o s others Cut = none 1
-follow o s others TooLong = none 2
-follow o s others (Data n) = cond (leb n (length (take n (drop 16 s)))) (before (front o s n) (others (drop n (drop 16 s)))) (none 1)
+abbrev pub follow : Order → List ℕ → (List ℕ → Packets) → Result ℕ End → Packets
+follow o s others (Err e) = none (ending_of e)
+follow o s others (Ok n) = cond (leb n (length (take n (drop 16 s)))) (before (front o s n) (others (drop n (drop 16 s)))) (none (ending_of Cut))
 
 -- the packets of the bytes behind the file header, n of them at most: a record header of at most 16 bytes by `next_of`, then its data, and then the same with what is left
 unfoldable pub packets_in : ℕ → Order → List ℕ → Packets
@@ -59,9 +55,9 @@ pub data Holding : Type 0 where
   refuses : ℕ → Holding
   holds : Packets → Holding
 
-abbrev pub holding_by : List ℕ → Opened → Holding
-holding_by s (Capture o) = holds (packets_of o (drop 24 s))
-holding_by s Refused = refuses (open_answer Refused)
+abbrev pub holding_by : List ℕ → Option Order → Holding
+holding_by s (Some o) = holds (packets_of o (drop 24 s))
+holding_by s None = refuses (open_answer None)
 
 -- THE PACKETS OF A FILE, by what opening it answers
 unfoldable pub holding : List ℕ → Holding
@@ -81,11 +77,9 @@ module _ (o : Order) where
   whole true p l m e = ap (λ x. listed p.row x) e
   whole false p l m e = refl
 
-  each : (s : List ℕ) (f : List ℕ → Packets) → ((n : ℕ) → plain (f (drop n (drop 16 s))) ≡ records o (drop n (drop 16 s))) → (m : Next) → plain (follow o s f m) ≡ after o (drop 16 s) m
-  each s f h Edge = refl
-  each s f h Cut = refl
-  each s f h TooLong = refl
-  each s f h (Data n) = whole (leb n (length (take n (drop 16 s)))) (front o s n) (f (drop n (drop 16 s))) (records o (drop n (drop 16 s))) (h n)
+  each : (s : List ℕ) (f : List ℕ → Packets) → ((n : ℕ) → plain (f (drop n (drop 16 s))) ≡ records o (drop n (drop 16 s))) → (m : Result ℕ End) → plain (follow o s f m) ≡ after o (drop 16 s) m
+  each s f h (Err e) = refl
+  each s f h (Ok n) = whole (leb n (length (take n (drop 16 s)))) (front o s n) (f (drop n (drop 16 s))) (records o (drop n (drop 16 s))) (h n)
 
   at_end : records o [] ≡ ended 0
   unfolding records_in records
@@ -106,21 +100,19 @@ pub same_reading : (s : List ℕ) → plainly (holding s) ≡ reading s
 unfolding holding reading
 same_reading s = pick (opened s)
   where
-    pick : (m : Opened) → plainly (holding_by s m) ≡ reading_by s m
-    pick (Capture o) = ap (λ l. read l) (same_records o (drop 24 s))
-    pick Refused = refl
+    pick : (m : Option Order) → plainly (holding_by s m) ≡ reading_by s m
+    pick (Some o) = ap (λ l. read l) (same_records o (drop 24 s))
+    pick None = refl
 
 -- ---- turn by turn
 
 module _ (o : Order) where
   -- what comes next decides by the packets of the bytes behind a record alone
-  alike : (s : List ℕ) (f g : List ℕ → Packets) → ((n : ℕ) → f (drop n (drop 16 s)) ≡ g (drop n (drop 16 s))) → (m : Next) → follow o s f m ≡ follow o s g m
-  alike s f g h Edge = refl
-  alike s f g h Cut = refl
-  alike s f g h TooLong = refl
-  alike s f g h (Data n) = rw (h n)
+  alike : (s : List ℕ) (f g : List ℕ → Packets) → ((n : ℕ) → f (drop n (drop 16 s)) ≡ g (drop n (drop 16 s))) → (m : Result ℕ End) → follow o s f m ≡ follow o s g m
+  alike s f g h (Err e) = refl
+  alike s f g h (Ok n) = rw (h n)
 
-  at_edge : next_of o (take 16 []) ≡ Edge
+  at_edge : next_of o (take 16 []) ≡ Err Edge
   at_edge = sym (edge o [] refl)
 
   -- more turns than bytes change nothing

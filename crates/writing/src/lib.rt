@@ -3,7 +3,10 @@
 
 ghost use Rattle.std.specs.Prelude.{◌≡◌, ◌+◌, ◌≤◌, length};
 ghost use Rattle.std.proofs.Math.Seq.{paste};
+ghost use Rattle.refusal.specs.Refusals.{number_of};
 ghost use Rattle.writing.specs.Writing.{little_bytes, begin_says, begin_leaves, add_says, add_leaves};
+
+use refusal::Refusal;
 
 // What a call says: its answer, and how many bytes it wrote at the start of the lent ones; none with a refusal.
 #[repr(C)]
@@ -13,20 +16,25 @@ pub struct Written {
     pub bytes: u32,
 }
 
+// What a refusal says.
+fn refused(refusal: Refusal) -> Written
+    ensures { result ≡ record { answer = number_of refusal; bytes = 0 } }
+{
+    Written {
+        answer: refusal.number(),
+        bytes: 0,
+    }
+}
+
 // Writes a file header: the magic bytes in reverse, version 2.4, two zero numbers, the snapshot length 16,384, the link type 101.
 pub fn begin(out: &mut [u8]) -> Written
     ensures { (result ≡ begin_says out.old) × (out.new ≡ begin_leaves out.old) }
 {
     if out.len() < 24 {
-        return Written {
-            answer: 8,
-            bytes: 0,
-        };
+        return refused(Refusal::NoRoom);
     }
-    octets::copy(
+    out[..24].copy_from_slice(
         b"\xD4\xC3\xB2\xA1\x02\x00\x04\x00\x00\x00\x00\x00\x00\x00\x00\x00\x00\x40\x00\x00\x65\x00\x00\x00",
-        out,
-        0,
     );
     Written {
         answer: 0,
@@ -40,23 +48,17 @@ pub fn add(out: &mut [u8], seconds: u32, fraction: u32, original: u32, data: &[u
 {
     let n = data.len();
     if 16384 < n {
-        return Written {
-            answer: 12,
-            bytes: 0,
-        };
+        return refused(Refusal::NoCapture);
     }
     if out.len() < 16 + n {
-        return Written {
-            answer: 8,
-            bytes: 0,
-        };
+        return refused(Refusal::NoRoom);
     }
     let captured = n as u32;
     put_little(out, 0, seconds);
     put_little(out, 4, fraction);
     put_little(out, 8, captured);
     put_little(out, 12, original);
-    octets::copy(data, out, 16);
+    out[16..16 + n].copy_from_slice(data);
     Written {
         answer: 0,
         bytes: 16 + captured,
@@ -68,8 +70,5 @@ fn put_little(out: &mut [u8], at: usize, n: u32)
     requires { at + 4 ≤ length out.old }
     ensures { out.new ≡ paste out.old at (little_bytes n) 4 }
 {
-    out[at] = (n % 256) as u8;
-    out[at + 1] = (n / 256 % 256) as u8;
-    out[at + 2] = (n / 65536 % 256) as u8;
-    out[at + 3] = (n / 16777216 % 256) as u8;
+    out[at..at + 4].copy_from_slice(&n.to_le_bytes());
 }

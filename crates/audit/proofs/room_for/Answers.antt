@@ -10,15 +10,15 @@ use native.Mathlib.Omega.{arith}
 use borrow.Author.Tests.{lt-leb, le-leb}
 use Rattle.audit.proofs.room_for.Goals as goal
 
-pub returns-then-c-tops : goal.returns-then-c-tops
-returns-then-c-tops c = simp (lt-leb _ _ c.if-c-tops.true)
+pub returns-then-c-shape : goal.returns-then-c-shape
+returns-then-c-shape c = simp (lt-leb _ _ c.if-c-shape.true)
 
 pub returns-then-c-gt65536 : goal.returns-then-c-gt65536
-returns-then-c-gt65536 c = simp (le-leb _ _ c.if-c-tops.false, lt-leb _ _ c.if-c-gt65536.true)
+returns-then-c-gt65536 c = simp (le-leb _ _ c.if-c-shape.false, lt-leb _ _ c.if-c-gt65536.true)
 
 pub returns : goal.returns
 returns c =
     let a = c.args in
-    let k = kind_of a.tops.now a.shape in
+    let k = kind_of a.shape.now in
     let z : c.rows_end.result + (2 + 8 * a.c) ≡ size k a.c = omega (arith, c.rows_end.ensures.0) in
-    simp (le-leb _ _ c.if-c-tops.false, le-leb _ _ c.if-c-gt65536.false) (ap (λ m. leb m (length a.words.now)) z)
+    simp (le-leb _ _ c.if-c-shape.false, le-leb _ _ c.if-c-gt65536.false) (ap (λ m. leb m (length a.words.now)) z)

@@ -8,8 +8,9 @@ use Rattle.audit.proofs.tree_is.Goals as goal
 pub part_is-requires : goal.part_is-requires
 part_is-requires c =
     let a = c.args in
-    let g = scratch_few (a.n + 1) c.requires.5 (omega arith) in
-    (c.requires.0, c.requires.1, record { places = omega (arith, g.places, c.places.auto.out); room = g.room }, c.requires.3)
+    let h = a.shape.now.shaped in
+    let g = scratch_few (a.n + 1) c.requires.3 (omega arith) in
+    (c.requires.0, c.requires.1, record { places = omega (arith, g.places, c.places.auto.out); room = g.room }, omega (arith, h.ends, h.narrow))
 
 pub returns : goal.returns
 returns c = rw c.places.ensures at c.part_is.ensures

@@ -2,8 +2,8 @@
 use Rattle.blocks.proofs.Writing.{Counts}
 use Rattle.blocks.proofs.blocks_for.Given as goal
 
-abbrev pub invariant-loop-left : goal.invariant-loop-left
-invariant-loop-left l = Counts l.m l.left l.total
+abbrev pub invariant-loop-level : goal.invariant-loop-level
+invariant-loop-level l = Counts l.m l.level l.total
 
-abbrev pub decreases-loop-left : goal.decreases-loop-left
-decreases-loop-left l = l.left
+abbrev pub decreases-loop-level : goal.decreases-loop-level
+decreases-loop-level l = l.level

@@ -2,7 +2,7 @@
 -- Assumes nothing.
 use Prim.Native.Nat.{ℕ, ◌<◌, ◌≤◌, ◌+◌, ◌-◌}
 use mathlib.Core.Path.{◌≡◌, refl, ◌∙◌}
-use mathlib.Core.List.{List, append-nil}
+use mathlib.Core.List.{List}
 use native.Mathlib.Nat.{pos_of_ne-zero}
 use native.Mathlib.Omega.{arith}
 use lib.ListN.{length, get_or, take, drop, length-drop}
@@ -46,7 +46,7 @@ pub build_chain-returns-then-left-eq0 : goal.build_chain-returns-then-left-eq0
 build_chain-returns-then-left-eq0 t c = record { builds = λ a m q s. built_none _ _ _ _ m c.if-left-eq0.true c.build_leaf.ensures s; kept = refl }
 
 pub build_chain-build_one-one-requires : goal.build_chain-build_one-one-requires
-build_chain-build_one-one-requires t c = (c.requires.inside, one_first c.if-left-eq0.false (rw append-nil at (c.flat.ensures c.if-flat.true)) c.requires.room)
+build_chain-build_one-one-requires t c = (c.requires.inside, one_first c.if-left-eq0.false (rw c.of-rows.ensures at (c.flat.ensures c.if-flat.true)) c.requires.room)
 
 pub build_chain-write_below-requires : goal.build_chain-write_below-requires
 build_chain-write_below-requires t c =
@@ -55,7 +55,7 @@ build_chain-write_below-requires t c =
     let o = c.build_one-one in
     let part = drop a.base o.new.words in
     let below = leaf (take a.base a.words.now) (take a.n a.sets.now) part a.field a.left a.c c.build_leaf-then-left-eq1.result c.if-left-eq1.true c.build_leaf-then-left-eq1.ensures in
-    omega (arith, one_room r.more c.if-left-eq0.false (rw append-nil at (c.flat.ensures c.if-flat.true)) r.state o.ensures.0.lays o.ensures.1 part c.build_leaf-then-left-eq1.result below, length-drop a.base o.new.words)
+    omega (arith, one_room r.more c.if-left-eq0.false (rw c.of-rows.ensures at (c.flat.ensures c.if-flat.true)) r.state o.ensures.0.lays o.ensures.1 part c.build_leaf-then-left-eq1.result below, length-drop a.base o.new.words)
 
 pub build_chain-returns-then-left-eq1 : goal.build_chain-returns-then-left-eq1
 build_chain-returns-then-left-eq1 t c =
@@ -65,7 +65,7 @@ build_chain-returns-then-left-eq1 t c =
     let part = drop a.base o.new.words in
     let below = leaf (take a.base a.words.now) (take a.n a.sets.now) part a.field a.left a.c c.build_leaf-then-left-eq1.result c.if-left-eq1.true c.build_leaf-then-left-eq1.ensures in
     record {
-      builds = rw w.hangs (λ _ m _ s. one_built m c.if-left-eq0.false (rw append-nil at (c.flat.ensures c.if-flat.true)) s o.ensures.0.lays o.ensures.1 part c.build_leaf-then-left-eq1.result below);
+      builds = rw w.hangs (λ _ m _ s. one_built m c.if-left-eq0.false (rw c.of-rows.ensures at (c.flat.ensures c.if-flat.true)) s o.ensures.0.lays o.ensures.1 part c.build_leaf-then-left-eq1.result below);
       kept = w.kept ∙ o.ensures.0.kept;
     }
 
@@ -77,7 +77,7 @@ build_chain-build_chain-below-requires t c =
       omega (arith, c.decreases),
       record {
         inside = omega (arith, o.auto.words, c.requires.inside);
-        room = rw o.ensures.0.kept (one_spare r.more c.if-left-eq0.false (rw append-nil at (c.flat.ensures c.if-flat.true)) r.state o.ensures.0.lays o.ensures.1);
+        room = rw o.ensures.0.kept (one_spare r.more c.if-left-eq0.false (rw c.of-rows.ensures at (c.flat.ensures c.if-flat.true)) r.state o.ensures.0.lays o.ensures.1);
         scratch = scratch_on c.requires.scratch l;
         depth = omega (arith, c.requires.depth);
       },
@@ -91,7 +91,7 @@ build_chain-write_below-requires-then-flat t c =
     let b = c.build_chain-below in
     omega (
       arith,
-      one_room r.more c.if-left-eq0.false (rw append-nil at (c.flat.ensures c.if-flat.true)) r.state o.ensures.0.lays o.ensures.1 (drop a.base b.new.words) b.result (rw o.ensures.0.kept at b.ensures.builds),
+      one_room r.more c.if-left-eq0.false (rw c.of-rows.ensures at (c.flat.ensures c.if-flat.true)) r.state o.ensures.0.lays o.ensures.1 (drop a.base b.new.words) b.result (rw o.ensures.0.kept at b.ensures.builds),
       length-drop a.base b.new.words,
     )
 
@@ -102,7 +102,7 @@ build_chain-returns-then-flat t c =
     let b = c.build_chain-below in
     let w = c.write_below-then-flat.ensures in
     record {
-      builds = rw w.hangs (λ _ m _ s. one_built m c.if-left-eq0.false (rw append-nil at (c.flat.ensures c.if-flat.true)) s o.ensures.0.lays o.ensures.1 (drop a.base b.new.words) b.result (rw o.ensures.0.kept at b.ensures.builds));
+      builds = rw w.hangs (λ _ m _ s. one_built m c.if-left-eq0.false (rw c.of-rows.ensures at (c.flat.ensures c.if-flat.true)) s o.ensures.0.lays o.ensures.1 (drop a.base b.new.words) b.result (rw o.ensures.0.kept at b.ensures.builds));
       kept = w.kept ∙ b.ensures.kept ∙ o.ensures.0.kept;
     }
 

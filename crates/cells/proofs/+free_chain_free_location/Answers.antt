@@ -1,15 +1,8 @@
 -- `cells::free_chain` and `cells::free_location` leave a chain, and what is below a location, as free cells. They call each other, and the number of fields left falls: the measures are twice that number, and one more for a chain. The loop's invariant is `Going`; its measure is the steps that are left of the walk up the chain.
 -- Assumes nothing.
-use Prim.Native.Nat.{ℕ, ◌+◌}
-use mathlib.Core.Path.{◌≡◌, refl, sym, ◌∙◌}
-use mathlib.Core.List.{List}
+use mathlib.Core.Path.{refl}
 use native.Mathlib.Omega.{arith}
-use Rattle.model.specs.Rules.{Tree}
-use Rattle.cells.specs.Text.{width, under}
-use Rattle.cells.specs.Planted.{Deep}
-use Rattle.cells.specs.declared.Below.{Below}
-use Rattle.cells.specs.States.{TreeHeld}
-use Rattle.cells.proofs.Free.{Opened, opens, open_lt, open_held, freed, freed_room, freed_less, going, Ran, rans, ran_all, free_none}
+use Rattle.cells.proofs.Free.{opens, open_lt, open_held, freed, freed_room, freed_less, going, rans, ran_all, free_none}
 use Rattle.cells.proofs.+free_chain_free_location.Goals as goal
 
 pub free_chain-loop-k-init : goal.free_chain-loop-k-init
@@ -17,39 +10,37 @@ free_chain-loop-k-init t c = λ x a n q t' e p h. rw e at (going p h c.requires.
 
 pub free_chain-free_location-requires : goal.free_chain-free_location-requires
 free_chain-free_location-requires t c =
-    let o = (let h_here : let r = c.requires.1 in Opened c.loop-k.words c.args.fields c.loop-k.k c.args.chain.down c.args.c r.a (r.a + width r.t) r.q (under r.t + r.n) = let r = c.requires.1 in (let h_turn : (x : Below) (a n : ℕ) (q : List ℕ) (t' : Tree ℕ) → x.down ≡ c.args.chain.down → Deep t' c.args.fields → TreeHeld c.args.words.now x c.args.c a n q t' → Opened c.loop-k.words c.args.fields c.loop-k.k c.args.chain.down c.args.c a (a + width t') q (under t' + n) = λ x a n q t' e p h. opens (c.loop-k.invariant x a n q t' e p h) c.requires.0 c.loop-k-test.true in h_turn) _ r.a r.n r.q r.t refl r.deep r.held in h_here) in
+    let r = c.requires.1 in
+    let o = opens (c.loop-k.invariant _ r.a r.n r.q r.t refl r.deep r.held) c.requires.0 c.loop-k-test.true in
     (omega (arith, c.decreases), record { left = o.left; inside = open_lt o; held = record { a = _; n = _; q = _; t = _; deep = o.deep_u; held = open_held o } })
 
 pub free_chain-word_of-k-requires : goal.free_chain-word_of-k-requires
 free_chain-word_of-k-requires t c =
-    let o = (let h_here : let r = c.requires.1 in Opened c.loop-k.words c.args.fields c.loop-k.k c.args.chain.down c.args.c r.a (r.a + width r.t) r.q (under r.t + r.n) = let r = c.requires.1 in (let h_turn : (x : Below) (a n : ℕ) (q : List ℕ) (t' : Tree ℕ) → x.down ≡ c.args.chain.down → Deep t' c.args.fields → TreeHeld c.args.words.now x c.args.c a n q t' → Opened c.loop-k.words c.args.fields c.loop-k.k c.args.chain.down c.args.c a (a + width t') q (under t' + n) = λ x a n q t' e p h. opens (c.loop-k.invariant x a n q t' e p h) c.requires.0 c.loop-k-test.true in h_turn) _ r.a r.n r.q r.t refl r.deep r.held in h_here) in
+    let r = c.requires.1 in
+    let o = opens (c.loop-k.invariant _ r.a r.n r.q r.t refl r.deep r.held) c.requires.0 c.loop-k-test.true in
     omega (arith, freed_room o _ (c.free_location.ensures _ _ _ _ o.deep_u (open_held o)))
 
 pub free_chain-loop-k-smaller : goal.free_chain-loop-k-smaller
 free_chain-loop-k-smaller t c =
-    let o = (let h_here : let r = c.requires.1 in Opened c.loop-k.words c.args.fields c.loop-k.k c.args.chain.down c.args.c r.a (r.a + width r.t) r.q (under r.t + r.n) = let r = c.requires.1 in (let h_turn : (x : Below) (a n : ℕ) (q : List ℕ) (t' : Tree ℕ) → x.down ≡ c.args.chain.down → Deep t' c.args.fields → TreeHeld c.args.words.now x c.args.c a n q t' → Opened c.loop-k.words c.args.fields c.loop-k.k c.args.chain.down c.args.c a (a + width t') q (under t' + n) = λ x a n q t' e p h. opens (c.loop-k.invariant x a n q t' e p h) c.requires.0 c.loop-k-test.true in h_turn) _ r.a r.n r.q r.t refl r.deep r.held in h_here) in
+    let r = c.requires.1 in
+    let o = opens (c.loop-k.invariant _ r.a r.n r.q r.t refl r.deep r.held) c.requires.0 c.loop-k-test.true in
     rw c.word_of-k.ensures (freed_less o _ (c.free_location.ensures _ _ _ _ o.deep_u (open_held o)))
 
 pub free_chain-loop-k-preserved : goal.free_chain-loop-k-preserved
 free_chain-loop-k-preserved t c =
     λ x a n q t' e p h.
-    let o = (let h_turn : (x : Below) (a n : ℕ) (q : List ℕ) (t' : Tree ℕ) → x.down ≡ c.args.chain.down → Deep t' c.args.fields → TreeHeld c.args.words.now x c.args.c a n q t' → Opened c.loop-k.words c.args.fields c.loop-k.k c.args.chain.down c.args.c a (a + width t') q (under t' + n) = λ x a n q t' e p h. opens (c.loop-k.invariant x a n q t' e p h) c.requires.0 c.loop-k-test.true in h_turn) x a n q t' e p h in
+    let o = opens (c.loop-k.invariant x a n q t' e p h) c.requires.0 c.loop-k-test.true in
     rw c.word_of-k.ensures (freed o _ (c.free_location.ensures _ _ _ _ o.deep_u (open_held o)))
 
 pub free_chain-give_run-requires : goal.free_chain-give_run-requires
 free_chain-give_run-requires t c =
     let r = c.requires.1 in
-    record { a = _; n = _; q = _; s = _; rows = ((let h_left_over : (a n : ℕ) (q : List ℕ) (t' : Tree ℕ) → Deep t' c.args.fields → TreeHeld c.args.words.now c.args.chain c.args.c a n q t' → Ran c.loop-k.words c.args.chain.down c.args.c a (a + width t') q (under t' + n) = λ a n q t' p h. rans (c.loop-k.invariant _ a n q t' refl p h) c.requires.0 c.loop-k-test.false in h_left_over) r.a r.n r.q r.t r.deep r.held).rows }
-
-pub free_chain-shape_of-words : goal.free_chain-shape_of-words
-free_chain-shape_of-words t c =
-    let r = c.requires.1 in
-    c.give_run.auto.words ∙ ((let h_left_over : (a n : ℕ) (q : List ℕ) (t' : Tree ℕ) → Deep t' c.args.fields → TreeHeld c.args.words.now c.args.chain c.args.c a n q t' → Ran c.loop-k.words c.args.chain.down c.args.c a (a + width t') q (under t' + n) = λ a n q t' p h. rans (c.loop-k.invariant _ a n q t' refl p h) c.requires.0 c.loop-k-test.false in h_left_over) r.a r.n r.q r.t r.deep r.held).rows.state.tot ∙ sym r.held.state.tot
+    record { a = _; n = _; q = _; s = _; rows = (rans (c.loop-k.invariant _ r.a r.n r.q r.t refl r.deep r.held) c.requires.0 c.loop-k-test.false).rows }
 
 pub free_chain-returns : goal.free_chain-returns
 free_chain-returns t c =
     λ a n q t' p h.
-    let o = (let h_left_over : (a n : ℕ) (q : List ℕ) (t' : Tree ℕ) → Deep t' c.args.fields → TreeHeld c.args.words.now c.args.chain c.args.c a n q t' → Ran c.loop-k.words c.args.chain.down c.args.c a (a + width t') q (under t' + n) = λ a n q t' p h. rans (c.loop-k.invariant _ a n q t' refl p h) c.requires.0 c.loop-k-test.false in h_left_over) a n q t' p h in
+    let o = rans (c.loop-k.invariant _ a n q t' refl p h) c.requires.0 c.loop-k-test.false in
     ran_all t' n o (c.give_run.ensures _ _ _ _ o.rows)
 
 -- the last field
@@ -64,9 +55,6 @@ free_location-overflow_sub-fields t c = omega (arith, c.requires.left)
 
 pub free_location-free_chain-requires : goal.free_location-free_chain-requires
 free_location-free_chain-requires t c = (omega (arith, c.decreases, c.requires.left), (omega (arith, c.requires.left, c.if-fields-eq1.false), rw c.below_of-below.ensures c.requires.held))
-
-pub free_location-shape_of-words : goal.free_location-shape_of-words
-free_location-shape_of-words t c = c.free_chain.auto.words
 
 pub free_location-returns : goal.free_location-returns
 free_location-returns t c = λ a n q u p h. c.free_chain.ensures a n q u p (rw c.below_of-below.ensures h)

@@ -1,11 +1,7 @@
 -- `cells::write_below` leaves two words of the part written, and the rules. Assumes nothing.
 use native.Mathlib.Omega.{arith}
-use lib.ListN.{length-set}
 use Rattle.cells.proofs.Lent.{hangs_at}
 use Rattle.cells.proofs.write_below.Goals as goal
-
-pub bounds-words-i-2 : goal.bounds-words-i-2
-bounds-words-i-2 c = simp length-set (omega arith)
 
 pub returns : goal.returns
 returns c = hangs_at _ _ _ _ _ _ (omega arith) (omega arith)

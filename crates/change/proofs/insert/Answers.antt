@@ -11,128 +11,60 @@ use Rattle.layout.specs.Store.{table_of}
 use Rattle.layout.proofs.Sound.{sound, count_is}
 use Rattle.layout.proofs.Passed.{sound_room, sound_within, sound_planted}
 use Rattle.plant.proofs.Planting.{still_long, ready_bare, ready_room, done_words}
-use Rattle.change.proofs.Answers.{insert_done, insert_kept, inserted, insert_room, insert_place, insert_count, insert_right, insert_cells}
+use Rattle.change.proofs.Answers.{insert_done, inserted, insert_room, insert_place, insert_count, insert_right, insert_cells}
 use Rattle.plant.proofs.Left.{front_stays}
 use Rattle.change.proofs.insert.Goals as goal
-
-pub decide_insert-d-requires : goal.decide_insert-d-requires
-decide_insert-d-requires c = omega (arith, c.requires)
-
-pub shape_of-sets-then-d-ne0 : goal.shape_of-sets-then-d-ne0
-shape_of-sets-then-d-ne0 c = omega (arith, c.sets-1.given)
-
-pub shape_of-ends-then-d-ne0 : goal.shape_of-ends-then-d-ne0
-shape_of-ends-then-d-ne0 c = omega (arith, c.ends-1.given)
-
-pub returns-then-d-ne0 : goal.returns-then-d-ne0
-returns-then-d-ne0 c =
-    let a = c.args in
-    let t = c.decide_insert-d.ensures.0 in
-    (t, insert_kept (kind_of a.tops.now a.shape) c.requires.0 a.words.now (rule_in (length a.tops.now) a.row.now 0) _ t c.if-d-ne0.true)
 
 pub bounds-words-0 : goal.bounds-words-0
 bounds-words-0 c =
     let a = c.args in
-    let g = (kind_of a.tops.now a.shape) in
-    let z = sym c.if-d-ne0.false ∙ c.decide_insert-d.ensures.0 in
-    let h = (inserted g c.requires.0 a.words.now (rule_in (length a.tops.now) a.row.now 0) z).0 in
-    let o = sound g c.requires.0 a.words.now h in
-    let w = sound_room g c.requires.0 a.words.now o in
+    let g = (kind_of a.shape.now) in
+    let z = c.in_ok-place.ensures.0 in
+    let h = (inserted g c.args.shape.now.shaped a.words.now (rule_in (length a.shape.now.tops.now) a.row.now 0) z).0 in
+    let o = sound g c.args.shape.now.shaped a.words.now h in
+    let w = sound_room g c.args.shape.now.shaped a.words.now o in
     omega (arith, w.long)
 
 pub bounds-words-1 : goal.bounds-words-1
 bounds-words-1 c =
     let a = c.args in
-    let g = (kind_of a.tops.now a.shape) in
-    let z = sym c.if-d-ne0.false ∙ c.decide_insert-d.ensures.0 in
-    let h = (inserted g c.requires.0 a.words.now (rule_in (length a.tops.now) a.row.now 0) z).0 in
-    let o = sound g c.requires.0 a.words.now h in
-    let w = sound_room g c.requires.0 a.words.now o in
+    let g = (kind_of a.shape.now) in
+    let z = c.in_ok-place.ensures.0 in
+    let h = (inserted g c.args.shape.now.shaped a.words.now (rule_in (length a.shape.now.tops.now) a.row.now 0) z).0 in
+    let o = sound g c.args.shape.now.shaped a.words.now h in
+    let w = sound_room g c.args.shape.now.shaped a.words.now o in
     omega (arith, w.long)
-
-pub rows_end-from-requires : goal.rows_end-from-requires
-rows_end-from-requires c = omega (arith, c.requires)
-
-pub overflow_cast-from : goal.overflow_cast-from
-overflow_cast-from c = omega (arith, c.rows_end-from.ensures)
-
-pub overflow_cast-end : goal.overflow_cast-end
-overflow_cast-end c =
-    let a = c.args in
-    let g = (kind_of a.tops.now a.shape) in
-    let z = sym c.if-d-ne0.false ∙ c.decide_insert-d.ensures.0 in
-    let h = (inserted g c.requires.0 a.words.now (rule_in (length a.tops.now) a.row.now 0) z).0 in
-    let o = sound g c.requires.0 a.words.now h in
-    let w = sound_room g c.requires.0 a.words.now o in
-    omega (arith, w.most)
-
-pub overflow_mul-end : goal.overflow_mul-end
-overflow_mul-end c =
-    let a = c.args in
-    let g = (kind_of a.tops.now a.shape) in
-    let z = sym c.if-d-ne0.false ∙ c.decide_insert-d.ensures.0 in
-    let h = (inserted g c.requires.0 a.words.now (rule_in (length a.tops.now) a.row.now 0) z).0 in
-    let o = sound g c.requires.0 a.words.now h in
-    let w = sound_room g c.requires.0 a.words.now o in
-    omega (arith, w.most)
-
-pub overflow_add-end : goal.overflow_add-end
-overflow_add-end c =
-    let a = c.args in
-    let g = (kind_of a.tops.now a.shape) in
-    let z = sym c.if-d-ne0.false ∙ c.decide_insert-d.ensures.0 in
-    let h = (inserted g c.requires.0 a.words.now (rule_in (length a.tops.now) a.row.now 0) z).0 in
-    let o = sound g c.requires.0 a.words.now h in
-    let w = sound_room g c.requires.0 a.words.now o in
-    omega (arith, w.most)
-
-pub overflow_add-end-2 : goal.overflow_add-end-2
-overflow_add-end-2 c =
-    let a = c.args in
-    let g = (kind_of a.tops.now a.shape) in
-    let z = sym c.if-d-ne0.false ∙ c.decide_insert-d.ensures.0 in
-    let h = (inserted g c.requires.0 a.words.now (rule_in (length a.tops.now) a.row.now 0) z).0 in
-    let o = sound g c.requires.0 a.words.now h in
-    let w = sound_room g c.requires.0 a.words.now o in
-    let f = c.rows_end-from.ensures.0 in
-    omega (arith, w.most, c.rows_end-from.ensures.1)
-
-pub offset_bounds-words-from : goal.offset_bounds-words-from
-offset_bounds-words-from c = omega (arith, c.rows_end-from.ensures)
 
 pub slice_bounds-drop-end : goal.slice_bounds-drop-end
 slice_bounds-drop-end c =
     let a = c.args in
-    let g = (kind_of a.tops.now a.shape) in
-    let z = sym c.if-d-ne0.false ∙ c.decide_insert-d.ensures.0 in
-    let h = (inserted g c.requires.0 a.words.now (rule_in (length a.tops.now) a.row.now 0) z).0 in
-    let o = sound g c.requires.0 a.words.now h in
-    let w = sound_room g c.requires.0 a.words.now o in
+    let g = (kind_of a.shape.now) in
+    let z = c.in_ok-place.ensures.0 in
+    let h = (inserted g c.args.shape.now.shaped a.words.now (rule_in (length a.shape.now.tops.now) a.row.now 0) z).0 in
+    let o = sound g c.args.shape.now.shaped a.words.now h in
+    let w = sound_room g c.args.shape.now.shaped a.words.now o in
     let f = c.rows_end-from.ensures.0 in
     omega (arith, f, w.long)
-
-pub overflow_cast-tops : goal.overflow_cast-tops
-overflow_cast-tops c = omega (arith, c.requires)
 
 pub drop-requires : goal.drop-requires
 drop-requires c =
     let a = c.args in
-    let g = (kind_of a.tops.now a.shape) in
-    let z = sym c.if-d-ne0.false ∙ c.decide_insert-d.ensures.0 in
-    let h = (inserted g c.requires.0 a.words.now (rule_in (length a.tops.now) a.row.now 0) z).0 in
-    let o = sound g c.requires.0 a.words.now h in
-    let w = sound_room g c.requires.0 a.words.now o in
+    let g = (kind_of a.shape.now) in
+    let z = c.in_ok-place.ensures.0 in
+    let h = (inserted g c.args.shape.now.shaped a.words.now (rule_in (length a.shape.now.tops.now) a.row.now 0) z).0 in
+    let o = sound g c.args.shape.now.shaped a.words.now h in
+    let w = sound_room g c.args.shape.now.shaped a.words.now o in
     let f = c.rows_end-from.ensures.0 in
-    sound_planted g c.requires.0 a.words.now o _ f
+    sound_planted g c.args.shape.now.shaped a.words.now o _ f
 
 pub slice_bounds-put_rule-end : goal.slice_bounds-put_rule-end
 slice_bounds-put_rule-end c =
     let a = c.args in
-    let g = (kind_of a.tops.now a.shape) in
-    let z = sym c.if-d-ne0.false ∙ c.decide_insert-d.ensures.0 in
-    let h = (inserted g c.requires.0 a.words.now (rule_in (length a.tops.now) a.row.now 0) z).0 in
-    let o = sound g c.requires.0 a.words.now h in
-    let w = sound_room g c.requires.0 a.words.now o in
+    let g = (kind_of a.shape.now) in
+    let z = c.in_ok-place.ensures.0 in
+    let h = (inserted g c.args.shape.now.shaped a.words.now (rule_in (length a.shape.now.tops.now) a.row.now 0) z).0 in
+    let o = sound g c.args.shape.now.shaped a.words.now h in
+    let w = sound_room g c.args.shape.now.shaped a.words.now o in
     let f = c.rows_end-from.ensures.0 in
     let l = still_long _ c.rows_end-from.result a.words.now _ (omega (arith, f, w.long)) w.most c.drop.ensures in
     omega (arith, l, f, w.long)
@@ -140,11 +72,11 @@ slice_bounds-put_rule-end c =
 pub slice_bounds-put_rule-end-2 : goal.slice_bounds-put_rule-end-2
 slice_bounds-put_rule-end-2 c =
     let a = c.args in
-    let g = (kind_of a.tops.now a.shape) in
-    let z = sym c.if-d-ne0.false ∙ c.decide_insert-d.ensures.0 in
-    let h = (inserted g c.requires.0 a.words.now (rule_in (length a.tops.now) a.row.now 0) z).0 in
-    let o = sound g c.requires.0 a.words.now h in
-    let w = sound_room g c.requires.0 a.words.now o in
+    let g = (kind_of a.shape.now) in
+    let z = c.in_ok-place.ensures.0 in
+    let h = (inserted g c.args.shape.now.shaped a.words.now (rule_in (length a.shape.now.tops.now) a.row.now 0) z).0 in
+    let o = sound g c.args.shape.now.shaped a.words.now h in
+    let w = sound_room g c.args.shape.now.shaped a.words.now o in
     let f = c.rows_end-from.ensures.0 in
     let l = still_long _ c.rows_end-from.result a.words.now _ (omega (arith, f, w.long)) w.most c.drop.ensures in
     sym (length-take-le _ _ (omega (arith, l, f, w.long)))
@@ -152,36 +84,26 @@ slice_bounds-put_rule-end-2 c =
 pub put_rule-requires : goal.put_rule-requires
 put_rule-requires c =
     let a = c.args in
-    let g = (kind_of a.tops.now a.shape) in
-    let z = sym c.if-d-ne0.false ∙ c.decide_insert-d.ensures.0 in
-    let h = (inserted g c.requires.0 a.words.now (rule_in (length a.tops.now) a.row.now 0) z).0 in
-    let o = sound g c.requires.0 a.words.now h in
-    let w = sound_room g c.requires.0 a.words.now o in
+    let g = (kind_of a.shape.now) in
+    let z = c.in_ok-place.ensures.0 in
+    let h = (inserted g c.args.shape.now.shaped a.words.now (rule_in (length a.shape.now.tops.now) a.row.now 0) z).0 in
+    let o = sound g c.args.shape.now.shaped a.words.now h in
+    let w = sound_room g c.args.shape.now.shaped a.words.now o in
     let f = c.rows_end-from.ensures.0 in
     let l = still_long _ c.rows_end-from.result a.words.now _ (omega (arith, f, w.long)) w.most c.drop.ensures in
-    (c.requires.0, length-take-le _ _ (omega (arith, l, f, w.long)) ∙ f, insert_room g c.requires.0 a.words.now (rule_in (length a.tops.now) a.row.now 0) z, insert_place g c.requires.0 a.words.now (rule_in (length a.tops.now) a.row.now 0) z _ _ (c.decide_insert-d.ensures.1 c.if-d-ne0.false))
-
-pub overflow_add-n : goal.overflow_add-n
-overflow_add-n c =
-    let a = c.args in
-    let g = (kind_of a.tops.now a.shape) in
-    let z = sym c.if-d-ne0.false ∙ c.decide_insert-d.ensures.0 in
-    let h = (inserted g c.requires.0 a.words.now (rule_in (length a.tops.now) a.row.now 0) z).0 in
-    let o = sound g c.requires.0 a.words.now h in
-    let w = sound_room g c.requires.0 a.words.now o in
-    record { fits = omega (arith, insert_room g c.requires.0 a.words.now (rule_in (length a.tops.now) a.row.now 0) z, c.requires.0.few) }
+    (length-take-le _ _ (omega (arith, l, f, w.long)) ∙ f, insert_room g c.args.shape.now.shaped a.words.now (rule_in (length a.shape.now.tops.now) a.row.now 0) z, insert_place g c.args.shape.now.shaped a.words.now (rule_in (length a.shape.now.tops.now) a.row.now 0) z _ _ c.in_ok-place.ensures.1)
 
 pub plant-requires : goal.plant-requires
 plant-requires c =
     let a = c.args in
-    let g = (kind_of a.tops.now a.shape) in
-    let z = sym c.if-d-ne0.false ∙ c.decide_insert-d.ensures.0 in
-    let h = (inserted g c.requires.0 a.words.now (rule_in (length a.tops.now) a.row.now 0) z).0 in
-    let o = sound g c.requires.0 a.words.now h in
-    let w = sound_room g c.requires.0 a.words.now o in
+    let g = (kind_of a.shape.now) in
+    let z = c.in_ok-place.ensures.0 in
+    let h = (inserted g c.args.shape.now.shaped a.words.now (rule_in (length a.shape.now.tops.now) a.row.now 0) z).0 in
+    let o = sound g c.args.shape.now.shaped a.words.now h in
+    let w = sound_room g c.args.shape.now.shaped a.words.now o in
     let f = c.rows_end-from.ensures.0 in
     let l = still_long _ c.rows_end-from.result a.words.now _ (omega (arith, f, w.long)) w.most c.drop.ensures in
-    (c.requires.0, record { places = omega (arith, c.requires.1.places, c.decide_insert-d.auto.sets); room = omega (arith, c.requires.1.room, c.decide_insert-d.auto.ends) }, omega (arith, insert_room g c.requires.0 a.words.now (rule_in (length a.tops.now) a.row.now 0) z), ready_bare g c.requires.0 (get_or a.words.now 0 0) _ f a.words.now _ _ w.most w.long c.drop.ensures (with_rule (rule_in (length a.tops.now) a.row.now 0) (table_of g a.words.now)) (c.put_rule.ensures (get_or a.words.now 0 0) (table_of g a.words.now) (sound_within g c.requires.0 a.words.now o) (sym (count_is g c.requires.0 a.words.now)) (c.decide_insert-d.ensures.1 c.if-d-ne0.false) c.requires.2 (front_stays g c.requires.0 a.words.now h c.rows_end-from.result (c.rows_end-from.result + (2 + 8 * get_or a.words.now 0 0) - c.rows_end-from.result) c.drop.new.words f)), ready_room g c.requires.0 (get_or a.words.now 0 0) _ f a.words.now _ _ w.most w.long c.drop.ensures (with_rule (rule_in (length a.tops.now) a.row.now 0) (table_of g a.words.now)) (c.put_rule.ensures (get_or a.words.now 0 0) (table_of g a.words.now) (sound_within g c.requires.0 a.words.now o) (sym (count_is g c.requires.0 a.words.now)) (c.decide_insert-d.ensures.1 c.if-d-ne0.false) c.requires.2 (front_stays g c.requires.0 a.words.now h c.rows_end-from.result (c.rows_end-from.result + (2 + 8 * get_or a.words.now 0 0) - c.rows_end-from.result) c.drop.new.words f)) _ (insert_count g c.requires.0 a.words.now (rule_in (length a.tops.now) a.row.now 0) z) (insert_right g c.requires.0 a.words.now (rule_in (length a.tops.now) a.row.now 0) z) (insert_cells g c.requires.0 a.words.now (rule_in (length a.tops.now) a.row.now 0) z))
+    (record { places = omega (arith, c.requires.0.places, c.decide_insert.auto.sets); room = omega (arith, c.requires.0.room, c.decide_insert.auto.ends) }, omega (arith, insert_room g c.args.shape.now.shaped a.words.now (rule_in (length a.shape.now.tops.now) a.row.now 0) z), ready_bare g c.args.shape.now.shaped (get_or a.words.now 0 0) _ f a.words.now _ _ w.most w.long c.drop.ensures (with_rule (rule_in (length a.shape.now.tops.now) a.row.now 0) (table_of g a.words.now)) (c.put_rule.ensures (get_or a.words.now 0 0) (table_of g a.words.now) (sound_within g c.args.shape.now.shaped a.words.now o) (sym (count_is g c.args.shape.now.shaped a.words.now)) c.in_ok-place.ensures.1 c.requires.1 (front_stays g c.args.shape.now.shaped a.words.now h c.rows_end-from.result (c.rows_end-from.result + (2 + 8 * get_or a.words.now 0 0) - c.rows_end-from.result) c.drop.new.words f)), ready_room g c.args.shape.now.shaped (get_or a.words.now 0 0) _ f a.words.now _ _ w.most w.long c.drop.ensures (with_rule (rule_in (length a.shape.now.tops.now) a.row.now 0) (table_of g a.words.now)) (c.put_rule.ensures (get_or a.words.now 0 0) (table_of g a.words.now) (sound_within g c.args.shape.now.shaped a.words.now o) (sym (count_is g c.args.shape.now.shaped a.words.now)) c.in_ok-place.ensures.1 c.requires.1 (front_stays g c.args.shape.now.shaped a.words.now h c.rows_end-from.result (c.rows_end-from.result + (2 + 8 * get_or a.words.now 0 0) - c.rows_end-from.result) c.drop.new.words f)) _ (insert_count g c.args.shape.now.shaped a.words.now (rule_in (length a.shape.now.tops.now) a.row.now 0) z) (insert_right g c.args.shape.now.shaped a.words.now (rule_in (length a.shape.now.tops.now) a.row.now 0) z) (insert_cells g c.args.shape.now.shaped a.words.now (rule_in (length a.shape.now.tops.now) a.row.now 0) z))
 
 pub shape_of-words : goal.shape_of-words
 shape_of-words c = omega (arith, c.words-3-1.given, c.words-2-1.given, c.words-1.given)
@@ -195,11 +117,17 @@ shape_of-ends c = omega (arith, c.ends-2-1.given, c.ends-1.given)
 pub returns : goal.returns
 returns c =
     let a = c.args in
-    let g = (kind_of a.tops.now a.shape) in
-    let z = sym c.if-d-ne0.false ∙ c.decide_insert-d.ensures.0 in
-    let h = (inserted g c.requires.0 a.words.now (rule_in (length a.tops.now) a.row.now 0) z).0 in
-    let o = sound g c.requires.0 a.words.now h in
-    let w = sound_room g c.requires.0 a.words.now o in
+    let g = (kind_of a.shape.now) in
+    let z = c.in_ok-place.ensures.0 in
+    let h = (inserted g c.args.shape.now.shaped a.words.now (rule_in (length a.shape.now.tops.now) a.row.now 0) z).0 in
+    let o = sound g c.args.shape.now.shaped a.words.now h in
+    let w = sound_room g c.args.shape.now.shaped a.words.now o in
     let f = c.rows_end-from.ensures.0 in
     let l = still_long _ c.rows_end-from.result a.words.now _ (omega (arith, f, w.long)) w.most c.drop.ensures in
-    (z, insert_done (kind_of a.tops.now a.shape) c.requires.0 a.words.now (rule_in (length a.tops.now) a.row.now 0) _ z (c.plant.ensures ∙ done_words g c.requires.0 (get_or a.words.now 0 0) _ f a.words.now _ _ w.most w.long c.drop.ensures (with_rule (rule_in (length a.tops.now) a.row.now 0) (table_of g a.words.now)) (c.put_rule.ensures (get_or a.words.now 0 0) (table_of g a.words.now) (sound_within g c.requires.0 a.words.now o) (sym (count_is g c.requires.0 a.words.now)) (c.decide_insert-d.ensures.1 c.if-d-ne0.false) c.requires.2 (front_stays g c.requires.0 a.words.now h c.rows_end-from.result (c.rows_end-from.result + (2 + 8 * get_or a.words.now 0 0) - c.rows_end-from.result) c.drop.new.words f)) _ (insert_count g c.requires.0 a.words.now (rule_in (length a.tops.now) a.row.now 0) z) (insert_right g c.requires.0 a.words.now (rule_in (length a.tops.now) a.row.now 0) z)))
+    (z, insert_done (kind_of a.shape.now) c.args.shape.now.shaped a.words.now (rule_in (length a.shape.now.tops.now) a.row.now 0) _ z (c.plant.ensures ∙ done_words g c.args.shape.now.shaped (get_or a.words.now 0 0) _ f a.words.now _ _ w.most w.long c.drop.ensures (with_rule (rule_in (length a.shape.now.tops.now) a.row.now 0) (table_of g a.words.now)) (c.put_rule.ensures (get_or a.words.now 0 0) (table_of g a.words.now) (sound_within g c.args.shape.now.shaped a.words.now o) (sym (count_is g c.args.shape.now.shaped a.words.now)) c.in_ok-place.ensures.1 c.requires.1 (front_stays g c.args.shape.now.shaped a.words.now h c.rows_end-from.result (c.rows_end-from.result + (2 + 8 * get_or a.words.now 0 0) - c.rows_end-from.result) c.drop.new.words f)) _ (insert_count g c.args.shape.now.shaped a.words.now (rule_in (length a.shape.now.tops.now) a.row.now 0) z) (insert_right g c.args.shape.now.shaped a.words.now (rule_in (length a.shape.now.tops.now) a.row.now 0) z)))
+
+pub overflow_add-n : goal.overflow_add-n
+overflow_add-n c =
+    let a = c.args in
+    let h = a.shape.now.shaped in
+    omega (arith, h.few, insert_room (kind_of a.shape.now) h a.words.now (rule_in (length a.shape.now.tops.now) a.row.now 0) c.in_ok-place.ensures.0)

@@ -1,18 +1,28 @@
 -- `compare::part_is` meets its contract.
 -- Assumes nothing.
-use lib.ListN.{take}
-use Rattle.rows.specs.Rows.{tree_at}
+use mathlib.Core.Path.{sym, ◌∙◌}
+use borrow.Author.Tests.{eqb-true, eq-eqb}
+use Rattle.model.proofs.Tests.{never}
 use Rattle.compare.proofs.Turns.{part_differs, part_no_past, part_no_low, part_rest}
 use Rattle.compare.proofs.part_is.Goals as goal
+use Rattle.compare.proofs.part_is.Goals.{then-words-tree, else-words-tree}
 
 pub returns-in_default : goal.returns-in_default
-returns-in_default c = part_differs _ _ (tree_at c.args.rules.now 0 c.args.fields (take c.args.n c.args.sets.now)) c.compare_chain.ensures c.in_default.is
+returns-in_default c = part_differs _ _ _ c.compare_chain.ensures c.in_default.is
 
-pub returns-then-words-past : goal.returns-then-words-past
-returns-then-words-past c = part_no_past _ _ (tree_at c.args.rules.now 0 c.args.fields (take c.args.n c.args.sets.now)) c.compare_chain.ensures c.in-Same.is c.if-words-past.true
+-- the links stand
+pub returns-then-words-tree-2 : goal.returns-then-words-tree-2
+returns-then-words-tree-2 c =
+    elim c.if-words-tree.branch [
+      | then-words-tree w ↦ part_rest _ _ _ c.compare_chain.ensures c.in-Some.is c.requires.0 w.if-words-tree.true (eqb-true _ _ (sym w.value-is ∙ c.if-words-tree-2.true)) _ c.free_from.ensures
+      | else-words-tree w ↦ absurd (w.if-words-tree.false (eqb-true _ _ (sym w.value-is ∙ c.if-words-tree-2.true)))
+    ]
 
-pub returns-then-words-low : goal.returns-then-words-low
-returns-then-words-low c = part_no_low _ _ (tree_at c.args.rules.now 0 c.args.fields (take c.args.n c.args.sets.now)) c.compare_chain.ensures c.in-Same.is c.if-words-low.true
-
-pub returns : goal.returns
-returns c = part_rest _ _ (tree_at c.args.rules.now 0 c.args.fields (take c.args.n c.args.sets.now)) c.compare_chain.ensures c.in-Same.is c.requires.0 c.if-words-past.false c.if-words-low.false _ c.free_from.ensures
+-- one of them differs
+pub returns-else-words-tree-2 : goal.returns-else-words-tree-2
+returns-else-words-tree-2 c =
+    c.if-words-tree-2.false
+    ∙ elim c.if-words-tree.branch [
+      | then-words-tree w ↦ part_no_low _ _ _ c.compare_chain.ensures c.in-Some.is (λ h. never (sym (eq-eqb _ _ h) ∙ sym w.value-is ∙ c.if-words-tree-2.false))
+      | else-words-tree w ↦ part_no_past _ _ _ c.compare_chain.ensures c.in-Some.is w.if-words-tree.false
+    ]

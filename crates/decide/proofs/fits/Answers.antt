@@ -18,5 +18,5 @@ put_in n p x w a b e f h =
 pub returns : goal.returns
 returns c =
     let a = c.args in
-    let q = put_in a.n a.p _ a.width _ _ c.places.ensures c.put_place.ensures c.requires.1 in
-    counted _ _ a.c (rw q at c.count_chain.ensures)
+    let q = put_in a.n a.p _ a.shape.now.width _ _ c.places.ensures c.put_in.ensures c.requires.1 in
+    counted _ _ a.c (rw (q, c.new-both.ensures) at c.count_chain.ensures)

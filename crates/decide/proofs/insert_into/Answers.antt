@@ -18,41 +18,31 @@ bounds-row-0 c = omega (arith, c.requires)
 pub returns-then-number-gt65534 : goal.returns-then-number-gt65534
 returns-then-number-gt65534 c =
     let a = c.args in
-    let r = c.refuse.ensures.0 in
-    (r ∙ into_1 (kind_of a.tops.now a.shape) a.n a.c a.rows.now a.row.now c.requires.0 c.requires.2 c.if-number-gt65534.true, λ z. absurd (omega (arith, r, z)))
-
-pub right-requires : goal.right-requires
-right-requires c = omega (arith, c.requires)
+    (into_1 (kind_of a.shape.now) a.n a.c a.rows.now a.row.now c.requires.0 c.requires.2 c.if-number-gt65534.true, tt)
 
 -- 2
 pub returns-then-not-right : goal.returns-then-not-right
 returns-then-not-right c =
     let a = c.args in
-    let r = c.refuse-then-not-right.ensures.0 in
-    (r ∙ into_2 (kind_of a.tops.now a.shape) a.n a.c a.rows.now a.row.now c.requires.0 c.requires.2 c.if-number-gt65534.false _ c.right.ensures c.if-not-right.true, λ z. absurd (omega (arith, r, z)))
+    (into_2 (kind_of a.shape.now) a.n a.c a.rows.now a.row.now c.requires.0 c.requires.2 c.if-number-gt65534.false _ c.right.ensures c.if-not-right.true, tt)
 
 -- 3
 pub returns-then-stands_behind : goal.returns-then-stands_behind
 returns-then-stands_behind c =
     let a = c.args in
-    let r = c.refuse-then-stands_behind.ensures.0 in
-    (r ∙ into_3 (kind_of a.tops.now a.shape) a.n a.c a.rows.now a.row.now c.requires.0 c.requires.2 c.if-number-gt65534.false _ c.right.ensures c.if-not-right.false (sym c.stands_behind.ensures ∙ c.if-stands_behind.true), λ z. absurd (omega (arith, r, z)))
+    (into_3 (kind_of a.shape.now) a.n a.c a.rows.now a.row.now c.requires.0 c.requires.2 c.if-number-gt65534.false _ c.right.ensures c.if-not-right.false (sym c.stands_behind.ensures ∙ c.if-stands_behind.true), tt)
 
 -- 5
 pub returns-then-shape-n : goal.returns-then-shape-n
 returns-then-shape-n c =
     let a = c.args in
-    let r = c.refuse-then-shape-n.ensures.0 in
-    (r ∙ into_5 (kind_of a.tops.now a.shape) a.n a.c a.rows.now a.row.now c.requires.0 c.requires.2 c.if-number-gt65534.false _ c.right.ensures c.if-not-right.false (sym c.stands_behind.ensures ∙ c.if-stands_behind.false) c.if-shape-n.true, λ z. absurd (omega (arith, r, z)))
-
-pub overflow_cast-tops : goal.overflow_cast-tops
-overflow_cast-tops c = omega (arith, c.requires)
+    (into_5 (kind_of a.shape.now) a.n a.c a.rows.now a.row.now c.requires.0 c.requires.2 c.if-number-gt65534.false _ c.right.ensures c.if-not-right.false (sym c.stands_behind.ensures ∙ c.if-stands_behind.false) c.if-shape-n.true, tt)
 
 pub fits-requires : goal.fits-requires
 fits-requires c =
     let a = c.args in
     let h = c.requires.0.rowed.shaped in
-    (omega (arith, c.if-shape-n.false, h.few), c.before-place.ensures.1, c.requires.1, omega (arith, h.ends, h.narrow), h.narrow, omega (arith, c.requires.0.rowed.whole, row_starts a.shape.width (a.shape.most + 1) 513 (omega (arith, h.few)), h.narrow), scratch_few (suc (suc a.n)) c.requires.3 (omega (arith, c.if-shape-n.false)))
+    (omega (arith, c.if-shape-n.false, h.few), c.before-place.ensures.1, c.requires.1, omega (arith, c.requires.0.rowed.whole, row_starts a.shape.now.width (a.shape.now.most + 1) 513 (omega (arith, h.few)), h.narrow), scratch_few (suc (suc a.n)) c.requires.3 (omega (arith, c.if-shape-n.false)))
 
 pub shape_of-sets-then-not-fits : goal.shape_of-sets-then-not-fits
 shape_of-sets-then-not-fits c = omega (arith, c.sets-1.given)
@@ -64,8 +54,7 @@ shape_of-ends-then-not-fits c = omega (arith, c.ends-1.given)
 pub returns-then-not-fits : goal.returns-then-not-fits
 returns-then-not-fits c =
     let a = c.args in
-    let r = c.refuse-then-not-fits.ensures.0 in
-    (r ∙ into_6 (kind_of a.tops.now a.shape) a.n a.c a.rows.now a.row.now c.requires.0 c.requires.2 c.if-number-gt65534.false _ c.right.ensures c.if-not-right.false (sym c.stands_behind.ensures ∙ c.if-stands_behind.false) c.if-shape-n.false _ c.before-place.ensures.0 c.fits.ensures (ap not c.if-not-fits.true), λ z. absurd (omega (arith, r, z)))
+    (into_6 (kind_of a.shape.now) a.n a.c a.rows.now a.row.now c.requires.0 c.requires.2 c.if-number-gt65534.false _ c.right.ensures c.if-not-right.false (sym c.stands_behind.ensures ∙ c.if-stands_behind.false) c.if-shape-n.false _ c.before-place.ensures.0 c.fits.ensures (ap not c.if-not-fits.true), tt)
 
 pub shape_of-sets : goal.shape_of-sets
 shape_of-sets c = omega (arith, c.sets-1.given)
@@ -77,4 +66,4 @@ shape_of-ends c = omega (arith, c.ends-1.given)
 pub returns : goal.returns
 returns c =
     let a = c.args in
-    (into_0 (kind_of a.tops.now a.shape) a.n a.c a.rows.now a.row.now c.requires.0 c.requires.2 c.if-number-gt65534.false _ c.right.ensures c.if-not-right.false (sym c.stands_behind.ensures ∙ c.if-stands_behind.false) c.if-shape-n.false _ c.before-place.ensures.0 c.fits.ensures (ap not c.if-not-fits.false), λ z. c.before-place.ensures.0)
+    (into_0 (kind_of a.shape.now) a.n a.c a.rows.now a.row.now c.requires.0 c.requires.2 c.if-number-gt65534.false _ c.right.ensures c.if-not-right.false (sym c.stands_behind.ensures ∙ c.if-stands_behind.false) c.if-shape-n.false _ c.before-place.ensures.0 c.fits.ensures (ap not c.if-not-fits.false), c.before-place.ensures.0)

@@ -10,12 +10,12 @@ use Rattle.front.proofs.Front.{fresh_front}
 use Rattle.front.proofs.fresh.Goals as goal
 
 pub slice_bounds-write_head-end-2 : goal.slice_bounds-write_head-end-2
-slice_bounds-write_head-end-2 c = sym (length-take-le c.args.shape.head c.args.front.now (omega (arith, c.requires.1)))
+slice_bounds-write_head-end-2 c = sym (length-take-le c.args.shape.now.head c.args.front.now (omega (arith, c.requires)))
 
 pub write_head-requires : goal.write_head-requires
-write_head-requires c = omega (arith, length-take-le c.args.shape.head c.args.front.now (omega (arith, c.requires.1)), c.requires.0.three)
+write_head-requires c = omega (arith, length-take-le c.args.shape.now.head c.args.front.now (omega (arith, c.requires)), c.args.shape.now.shaped.three)
 
 pub returns : goal.returns
 returns c =
     let a = c.args in
-    fresh_front (kind_of a.tops.now a.shape) c.requires.0 a.c (record { action = a.action; rules = [] }) a.front.now _ _ c.requires.1 c.write_head.ensures c.fresh.ensures
+    fresh_front (kind_of a.shape.now) c.args.shape.now.shaped a.c (record { action = a.action; rules = [] }) a.front.now _ _ c.requires c.write_head.ensures c.fresh.ensures

@@ -9,6 +9,6 @@ pub returns : goal.returns
 unfolding stepped
 returns c =
     let a = c.args in
-    let long : length a.list.words ≡ 512 = search rules in
+    let long : length a.list.now.words ≡ 512 = search rules in
     let out : length c.copy.new.out ≡ 512 = search rules in
-    ap (λ (ws : List ℕ). record { count = a.list.count; words = ws }) (step_lays a.list.words _ _ a.place a.edit c.requires long c.row_of-row.ensures c.copy.ensures out)
+    ap (λ (ws : List ℕ). record { count = a.list.now.count; words = ws }) (step_lays a.list.now.words _ _ a.place a.edit.now c.requires long c.row_of-row.ensures c.copy.ensures out)

@@ -9,29 +9,11 @@ use Rattle.header.proofs.read_header.Goals as goal
 pub returns-then-s-lt20 : goal.returns-then-s-lt20
 returns-then-s-lt20 c = sym ((unreadable_when _).1 (inl c.if-s-lt20.true))
 
-pub bounds-s-0 : goal.bounds-s-0
-bounds-s-0 c = omega (arith, c.if-s-lt20.false)
-
 pub returns-then-s-ne4 : goal.returns-then-s-ne4
 returns-then-s-ne4 c = sym ((unreadable_when _).1 (inr (inl c.if-s-ne4.true)))
 
-pub bounds-s-0-2 : goal.bounds-s-0-2
-bounds-s-0-2 c = omega (arith, c.if-s-lt20.false)
-
 pub returns-then-s-lt5 : goal.returns-then-s-lt5
 returns-then-s-lt5 c = sym ((unreadable_when _).1 (inr (inr (inl c.if-s-lt5.true))))
-
-pub header_length-behind-requires : goal.header_length-behind-requires
-header_length-behind-requires c = omega (arith, c.if-s-lt20.false)
-
-pub total_length-total-requires : goal.total_length-total-requires
-total_length-total-requires c = omega (arith, c.if-s-lt20.false)
-
-pub has_ports-ported-requires : goal.has_ports-ported-requires
-has_ports-ported-requires c = omega (arith, c.if-s-lt20.false)
-
-pub overflow_add-behind : goal.overflow_add-behind
-overflow_add-behind c = omega (arith, c.ports_length.ensures.1, c.header_length-behind.ensures.1)
 
 -- the total length leaves no room
 pub returns-then-total-behind : goal.returns-then-total-behind
@@ -42,15 +24,6 @@ pub returns-then-s-total : goal.returns-then-s-total
 returns-then-s-total c =
     let s = sound_read _ c.header_length-behind.ensures.0 c.total_length-total.ensures c.has_ports-ported.ensures c.ports_length.ensures.0 (omega arith) c.if-s-ne4.false c.if-s-lt5.false c.if-total-behind.false in
     sym ((cut_when _).1 (not_faulty _ s, omega (arith, c.total_length-total.ensures, c.if-s-total.true)))
-
-pub big_word-destination-requires : goal.big_word-destination-requires
-big_word-destination-requires c = omega (arith, c.if-s-lt20.false)
-
-pub big_word-source-requires : goal.big_word-source-requires
-big_word-source-requires c = omega (arith, c.if-s-lt20.false)
-
-pub bounds-s-9 : goal.bounds-s-9
-bounds-s-9 c = omega (arith, c.if-s-lt20.false)
 
 -- the ports stand within the slice
 pub half_at-requires : goal.half_at-requires
@@ -63,10 +36,10 @@ half_at-requires-then-ported c = omega (arith, four _ c.header_length-behind.ens
 pub returns-then-ported : goal.returns-then-ported
 returns-then-ported c =
     packet_with _ (record { sound = sound_read _ c.header_length-behind.ensures.0 c.total_length-total.ensures c.has_ports-ported.ensures c.ports_length.ensures.0 (omega arith) c.if-s-ne4.false c.if-s-lt5.false c.if-total-behind.false; whole = omega (arith, c.total_length-total.ensures, c.if-s-total.false) }) (sym c.has_ports-ported.ensures ∙ c.if-ported.true)
-    (simp (c.big_word-destination.ensures, c.big_word-source.ensures, c.wide-protocol.ensures.0, c.half_at.ensures.0, c.half_at-then-ported.ensures.0, c.header_length-behind.ensures.0))
+    (simp (c.word_at-destination.ensures, c.word_at-source.ensures, c.from-protocol.ensures, c.half_at.ensures.0, c.half_at-then-ported.ensures.0, c.header_length-behind.ensures.0))
 
 -- a packet without ports
 pub returns : goal.returns
 returns c =
     packet_without _ (record { sound = sound_read _ c.header_length-behind.ensures.0 c.total_length-total.ensures c.has_ports-ported.ensures c.ports_length.ensures.0 (omega arith) c.if-s-ne4.false c.if-s-lt5.false c.if-total-behind.false; whole = omega (arith, c.total_length-total.ensures, c.if-s-total.false) }) (sym c.has_ports-ported.ensures ∙ c.if-ported.false)
-    (simp (c.big_word-destination.ensures, c.big_word-source.ensures, c.wide-protocol.ensures.0))
+    (simp (c.word_at-destination.ensures, c.word_at-source.ensures, c.from-protocol.ensures))

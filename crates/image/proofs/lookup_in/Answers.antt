@@ -14,24 +14,24 @@ use Rattle.image.proofs.lookup_in.Goals as goal
 pub returns-then-image-lt3 : goal.returns-then-image-lt3
 returns-then-image-lt3 c =
     let a = c.args in
-    c.refuse.ensures ∙ few_words (kind_of a.tops.now a.shape) a.image.now a.values.now (omega (arith, c.requires.0.three, c.if-image-lt3.true))
+    c.refused.ensures ∙ few_words (kind_of a.shape.now) a.image.now a.values.now (omega (arith, c.args.shape.now.shaped.three, c.if-image-lt3.true))
 
 -- another kind
 pub returns-then-image-shape : goal.returns-then-image-shape
 returns-then-image-shape c =
     let a = c.args in
-    c.refuse-then-image-shape.ensures ∙ no_kind (kind_of a.tops.now a.shape) a.image.now a.values.now (search rules)
+    c.refused-then-image-shape.ensures ∙ no_kind (kind_of a.shape.now) a.image.now a.values.now (search rules)
 
 -- too few words
 pub returns-then-image-from : goal.returns-then-image-from
 returns-then-image-from c =
     let a = c.args in
-    c.refuse-then-image-from.ensures ∙ few_words (kind_of a.tops.now a.shape) a.image.now a.values.now (omega (arith, c.rows_end.ensures.0, c.if-image-from.true))
+    c.refused-then-image-from.ensures ∙ few_words (kind_of a.shape.now) a.image.now a.values.now (omega (arith, c.rows_end.ensures.0, c.if-image-from.true))
 
 -- what the walk says
 pub returns : goal.returns
 returns c =
     let a = c.args in
-    let k = kind_of a.tops.now a.shape in
+    let k = kind_of a.shape.now in
     let f : c.rows_end.result + 2 ≡ front k = omega (arith, c.rows_end.ensures.0) in
     c.found_in.ensures ∙ ap (found_in k a.image.now) c.walk.ensures ∙ walked_there k a.image.now a.values.now (search rules) _ f c.if-image-from.false

@@ -1,17 +1,13 @@
--- `image::lookup_packet` meets its contract: one law for a header without values, and one for those with them.
+-- `image::lookup_packet` meets its contract: what the lookup says goes by what the header gives.
 -- Assumes nothing.
-use mathlib.Core.Path.{sym, ap, ◌∙◌}
-use Rattle.lookup.proofs.Steps.{none_given}
-use Rattle.lookup.specs.Walk.{refused}
-use Rattle.image.proofs.Steps.{no_values, by_values}
+use Rattle.std.proofs.Common.{sym, ◌∙◌}
+use Rattle.image.proofs.Steps.{by_header}
 use Rattle.image.proofs.lookup_packet.Goals as goal
 
--- the header gives no values
-pub returns-in_default : goal.returns-in_default
-returns-in_default c =
-    let h = c.read_header-h.result in
-    c.refuse.ensures ∙ ap refused c.answer.ensures ∙ no_values _ _ h c.read_header-h.ensures (none_given h c.in_default.not-Values)
+-- values
+pub returns-in-Ok : goal.returns-in-Ok
+returns-in-Ok c = c.lookup.ensures ∙ by_header _ _ _ (sym c.in-Ok.is ∙ c.read_header.ensures)
 
--- it gives them
-pub returns : goal.returns
-returns c = c.lookup.ensures ∙ by_values _ _ _ (sym c.in-Values.is ∙ c.read_header-h.ensures)
+-- a refusal
+pub returns-in-Err : goal.returns-in-Err
+returns-in-Err c = c.refused.ensures ∙ by_header _ _ _ (sym c.in-Err.is ∙ c.read_header.ensures)

@@ -4,7 +4,10 @@ use Rattle.image.proofs.Steps.{long, image_does}
 use Rattle.image.proofs.lookup_packet_tally.Goals as goal
 
 pub count_found-requires : goal.count_found-requires
-count_found-requires c = long _ _ c.lookup_packet-found.ensures
+count_found-requires c = long _ _ c.lookup_packet.ensures
 
 pub returns : goal.returns
-returns c = image_does _ _ _ c.lookup_packet-found.ensures _ _ _ c.count_found.ensures
+returns c =
+    let d = c.count_found.ensures in
+    let e = image_does _ _ _ c.lookup_packet.ensures _ _ _ (d.answer, d.left) in
+    record { answer = e.0; left = e.1 }

@@ -21,4 +21,5 @@ returns c =
       c.high-4.ensures,
       c.high-5.ensures,
       c.high-6.ensures,
+      c.of-table.ensures,
     )

@@ -1,34 +1,34 @@
 -- The laws of `Spelled`, one for each way that a byte goes.
 -- Assumes nothing.
 use Rattle.std.proofs.Common.{sym, ◌∙◌, arith}
-use Rattle.keeping.proofs.Spelled.{below, above, over, more, done}
+use Rattle.keeping.proofs.Spelled.{no_digit, over, more, done}
 use Rattle.keeping.proofs.action_of.Goals as goal
 
-pub returns-then-b-lt48 : goal.returns-then-b-lt48
-returns-then-b-lt48 c =
-    let l = c.loop-i in
-    below c.args.text.now l.i l.value (omega arith) c.if-b-lt48.true ∙ sym l.invariant.2
-
-pub returns-then-b-gt57 : goal.returns-then-b-gt57
-returns-then-b-gt57 c =
-    let l = c.loop-i in
-    above c.args.text.now l.i l.value (omega arith) c.if-b-lt48.false c.if-b-gt57.true ∙ sym l.invariant.2
+pub returns-in_err-digit : goal.returns-in_err-digit
+returns-in_err-digit c =
+    let l = c.loop-b in
+    c.from_residual.ensures ∙ no_digit c.args.text.now l.b-index l.value _ c.loop-b-test.true c.from.ensures c.in_err-digit.ensures.cases ∙ sym l.invariant
 
 -- a number of more than 32 bits
-pub returns-then-value-gt4294967295 : goal.returns-then-value-gt4294967295
-returns-then-value-gt4294967295 c =
-    let l = c.loop-i in
-    over c.args.text.now l.i l.value (omega arith) c.if-b-lt48.false c.if-b-gt57.false (rw c.longer-value.ensures at c.if-value-gt4294967295.true) ∙ sym l.invariant.2
+pub returns-in_err-checked_mul : goal.returns-in_err-checked_mul
+returns-in_err-checked_mul c =
+    let l = c.loop-b in
+    let d = c.in_ok-digit in
+    c.from_residual-in_err-checked_mul.ensures ∙ over c.args.text.now l.b-index l.value _ c.loop-b-test.true c.from.ensures d.digit d.ensures.cases d.ensures.value (omega (arith, c.in_err-checked_mul.ensures)) ∙ sym l.invariant
+
+pub returns-in_err-value : goal.returns-in_err-value
+returns-in_err-value c =
+    let l = c.loop-b in
+    let d = c.in_ok-digit in
+    c.from_residual-in_err-value.ensures ∙ over c.args.text.now l.b-index l.value _ c.loop-b-test.true c.from.ensures d.digit d.ensures.cases d.ensures.value (omega (arith, c.in_ok-checked_mul.ensures, c.in_err-value.ensures)) ∙ sym l.invariant
 
 -- one digit more
-pub loop-i-preserved : goal.loop-i-preserved
-loop-i-preserved c =
-    let l = c.loop-i in (
-      omega arith,
-      omega arith,
-      rw c.longer-value.ensures
-          (l.invariant.2 ∙ more c.args.text.now l.i l.value (omega arith) c.if-b-lt48.false c.if-b-gt57.false (rw c.longer-value.ensures at c.if-value-gt4294967295.false)),
-    )
+pub loop-b-preserved : goal.loop-b-preserved
+loop-b-preserved c =
+    let l = c.loop-b in
+    let d = c.in_ok-digit in
+    rw (c.in_ok-value.ensures.1, c.in_ok-checked_mul.ensures.1)
+    (l.invariant ∙ more c.args.text.now l.b-index l.value _ c.loop-b-test.true c.from.ensures d.digit d.ensures.cases d.ensures.value (omega (arith, c.in_ok-checked_mul.ensures, c.in_ok-value.ensures)))
 
 pub returns : goal.returns
-returns c = done c.args.text.now c.loop-i.i c.loop-i.value (omega arith) ∙ sym c.loop-i.invariant.2
+returns c = done c.args.text.now c.loop-b.b-index c.loop-b.value (omega arith) ∙ sym c.loop-b.invariant

@@ -1,11 +1,8 @@
--- The digits read so far are a number of 32 bits, and what is spelled behind it is what was asked for. Each turn leaves fewer of them.
+-- What is spelled behind the digits read so far is what was asked for.
 -- Assumes nothing.
-use Rattle.std.proofs.Common.{◌≡◌, ◌-◌, ◌≤◌, length, drop}
+use Rattle.std.proofs.Common.{◌≡◌, drop}
 use Rattle.keeping.specs.Keep.{asked_in, spelled}
 use Rattle.keeping.proofs.action_of.Given as goal
 
-abbrev pub invariant-loop-i : goal.invariant-loop-i
-invariant-loop-i l = (l.i ≤ length l.text) × (l.value ≤ 4294967295) × (asked_in l.text ≡ spelled l.value (drop l.i l.text))
-
-abbrev pub decreases-loop-i : goal.decreases-loop-i
-decreases-loop-i l = length l.text - l.i
+abbrev pub invariant-loop-b : goal.invariant-loop-b
+invariant-loop-b l = asked_in l.text ≡ spelled l.value (drop l.b-index l.text)

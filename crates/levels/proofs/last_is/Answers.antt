@@ -2,10 +2,8 @@
 -- Assumes nothing.
 use mathlib.Core.Bool.{not}
 use mathlib.Core.Path.{ap}
-use Prim.Native.Nat.{◌-◌}
-use mathlib.Core.List.{append-nil}
 use native.Mathlib.Omega.{arith}
-use Rattle.levels.proofs.Chain.{looks_start, looks_in, last_no, last_on, looks_above, looks_done, looks_not}
+use Rattle.levels.proofs.Chain.{looks_start, looks_in, last_no, last_on, looks_done, looks_not}
 use Rattle.levels.proofs.last_is.Goals as goal
 
 pub loop-i-init : goal.loop-i-init
@@ -19,26 +17,14 @@ down_is-requires c = looks_in c.loop-i.invariant c.loop-i-test.true
 
 -- a link is wrong
 pub returns-then-not-down_is : goal.returns-then-not-down_is
-returns-then-not-down_is c = last_no c.loop-i.invariant c.loop-i-test.true c.end_at-e.ensures (rw append-nil at c.least-named.ensures) c.down_is.ensures (ap not c.if-not-down_is.true)
+returns-then-not-down_is c = last_no c.loop-i.invariant c.loop-i-test.true c.end_at-e.ensures c.least-named.ensures c.down_is.ensures (ap not c.if-not-down_is.true)
 
 pub loop-i-preserved : goal.loop-i-preserved
-loop-i-preserved c = last_on c.loop-i.invariant c.loop-i-test.true c.end_at-e.ensures (rw append-nil at c.least-named.ensures) c.down_is.ensures (ap not c.if-not-down_is.false)
-
-pub upper_is-requires : goal.upper_is-requires
-upper_is-requires c = looks_above c.loop-i.invariant
+loop-i-preserved c = last_on c.loop-i.invariant c.loop-i-test.true c.end_at-e.ensures c.least-named.ensures c.down_is.ensures (ap not c.if-not-down_is.false)
 
 -- a level above is wrong
 pub returns-then-not-upper_is : goal.returns-then-not-upper_is
 returns-then-not-upper_is c = looks_not c.loop-i.invariant c.loop-i-test.false c.upper_is.result (ap not c.if-not-upper_is.true) c.upper_is.ensures
 
-pub overflow_add-result : goal.overflow_add-result
-overflow_add-result c = omega (arith, looks_above c.loop-i.invariant)
-
-pub overflow_add-result-2 : goal.overflow_add-result-2
-overflow_add-result-2 c = omega (arith, looks_above c.loop-i.invariant)
-
-pub overflow_cast-result : goal.overflow_cast-result
-overflow_cast-result c = omega (arith, looks_above c.loop-i.invariant)
-
 pub returns : goal.returns
-returns c = looks_done c.loop-i.invariant c.loop-i-test.false c.upper_is.result (ap not c.if-not-upper_is.false) c.upper_is.ensures
+returns c = rw (c.past.ensures, c.args.chain.size) (looks_done c.loop-i.invariant c.loop-i-test.false c.upper_is.result (ap not c.if-not-upper_is.false) c.upper_is.ensures)

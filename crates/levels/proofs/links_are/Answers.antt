@@ -1,26 +1,18 @@
--- `levels::links_are` meets its contract. The invariant: the places passed are right.
+-- `levels::links_are` meets its contract: each place is right, or one is not.
 -- Assumes nothing.
-use mathlib.Core.Bool.{not}
-use mathlib.Core.Path.{ap}
-use Prim.Native.Nat.{◌-◌}
+use mathlib.Core.Path.{◌≡◌, refl}
+use mathlib.Core.Bool.{true, false}
+use Prim.Native.Nat.{◌*◌}
+use native.Mathlib.Omega.{arith}
 use borrow.Author.Rules.{rules}
-use Rattle.model.proofs.Tests.{was_no, was_yes}
-use Rattle.blocks.proofs.Writing.{linked_start, linked_done}
-use Rattle.levels.proofs.Levels.{links_on, links_not}
+use Rattle.std.proofs.lemmas.Iterator.{cases_from_all, YieldsList-from_range}
+use Rattle.levels.proofs.Levels.{tested, Linking, links_stand}
 use Rattle.levels.proofs.links_are.Goals as goal
 
-pub loop-j-init : goal.loop-j-init
-loop-j-init c = (search rules, linked_start _ _ _ _ _)
-
-pub returns-then-not-entry_is : goal.returns-then-not-entry_is
-returns-then-not-entry_is c =
-    let l = c.loop-j in
-    links_not _ _ _ _ _ l.j _ _ l.invariant.1 (search rules) (search rules) c.last_end-end.ensures c.link_to-link.ensures (was_no c.entry_is.ensures (ap not c.if-not-entry_is.true))
-
-pub loop-j-preserved : goal.loop-j-preserved
-loop-j-preserved c =
-    let l = c.loop-j in
-    (search rules, links_on _ _ _ _ _ l.j _ _ l.invariant.1 (search rules) (search rules) c.last_end-end.ensures c.link_to-link.ensures (was_yes c.entry_is.ensures (ap not c.if-not-entry_is.false)))
-
 pub returns : goal.returns
-returns c = linked_done _ _ _ _ _ _ _ c.loop-j.invariant.1 (search rules) (search rules) (search rules)
+returns c =
+    let a = c.args in
+    let n = 8 * a.above.count in
+    let right = Linking a.words.now a.above.first a.above.count a.below.first a.below.count in
+    links_stand _ _ _ _ _ c.requires.0 c.all.result c.requires.1
+    (tested _ right n (cases_from_all _ _ _ (λ k. right k ≡ true) (λ k. right k ≡ false) c.all.ensures.ran (YieldsList-from_range 0 n n refl (omega arith)) (λ x q k. search rules) (λ x q k. search rules)))

@@ -1,38 +1,38 @@
 -- `levels::low_is` meets its contract.
 -- Assumes nothing.
 use mathlib.Core.Bool.{not}
-use mathlib.Core.Path.{ap}
-use mathlib.Core.Path.{◌≡◌}
-use mathlib.Core.List.{append-nil}
-use Prim.Native.Nat.{◌*◌, ◌≤◌}
+use mathlib.Core.Path.{ap, ◌∙◌}
 use native.Mathlib.Omega.{arith}
-use lib.ListN.{length, take}
-use Rattle.model.specs.Rules.{ends as ends_of}
-use Rattle.rows.specs.Rows.{field_at}
-use Rattle.blocks.specs.Blocks.{depth}
 use Rattle.blocks.proofs.Levels.{few_blocks}
-use Rattle.blocks.proofs.Writing.{size_parts}
-use Rattle.levels.proofs.Chain.{low_is, low_short, low_not}
+use Rattle.levels.proofs.Chain.{ends_beside, low_is, low_short, low_not}
 use Rattle.levels.proofs.low_is.Goals as goal
 
-pub overflow_add-b : goal.overflow_add-b
-overflow_add-b c = omega (arith, c.blocks_for.ensures, few_blocks c.ends_of-m.result, c.ends_of-m.ensures.0, c.requires)
+pub past-requires : goal.past-requires
+past-requires c =
+    let h = c.at-chain.result in
+    omega (arith, h.total, few_blocks h.ends, c.at-chain.ensures, c.ends_of-m.ensures.0)
 
 -- the words are too short
-pub returns-then-words-b : goal.returns-then-words-b
-returns-then-words-b c = λ left nz v. let w = (let h_written : let e = c.ends_of-m in let a = c.args in (e.result ≤ 2 * length a.set.now) × (e.result ≡ length (ends_of (field_at a.rules.now a.field) a.set.now)) × (take e.result e.new.ends ≡ ends_of (field_at a.rules.now a.field) a.set.now) = rw append-nil at c.ends_of-m.ensures in h_written) in low_short _ _ _ _ _ c.ends_of-m.result _ w.1 w.2 c.blocks_for.ensures left nz v c.requires.0 c.if-words-b.true
-
-pub overflow_sub-base : goal.overflow_sub-base
-overflow_sub-base c = let m = c.ends_of-m.result in omega (arith, c.blocks_for.ensures, size_parts (depth m) m)
-
-pub ends_are-requires : goal.ends_are-requires
-ends_are-requires c =
-    let m = c.ends_of-m.result in
-    (omega (arith, c.blocks_for.ensures, size_parts (depth m) m, c.if-words-b.false), omega (arith, c.ends_of-m.ensures.0, c.ends_of-m.auto.ends, c.requires.2))
+pub returns-then-words-past : goal.returns-then-words-past
+returns-then-words-past c =
+    let h = c.at-chain in
+    λ left nz v.
+    low_short _ _ _ _ c.args.a h.result.ends (h.ensures.1 ∙ c.ends_of-m.ensures.1) h.result.lowest.first h.result.lowest.count h.result.size (rw h.ensures.0 at h.result.total) left nz v c.requires.0 (rw c.past.ensures at c.if-words-past.true)
 
 -- an end is wrong
 pub returns-then-not-ends_are : goal.returns-then-not-ends_are
-returns-then-not-ends_are c = λ left nz v. let w = (let h_written : let e = c.ends_of-m in let a = c.args in (e.result ≤ 2 * length a.set.now) × (e.result ≡ length (ends_of (field_at a.rules.now a.field) a.set.now)) × (take e.result e.new.ends ≡ ends_of (field_at a.rules.now a.field) a.set.now) = rw append-nil at c.ends_of-m.ensures in h_written) in low_not _ _ _ _ _ c.ends_of-m.result _ w.1 w.2 c.blocks_for.ensures left nz v c.ends_are.result (ap not c.if-not-ends_are.true) c.ends_are.ensures
+returns-then-not-ends_are c =
+    let h = c.at-chain in
+    let count = h.ensures.1 ∙ c.ends_of-m.ensures.1 in
+    λ left nz v.
+    low_not _ _ _ _ c.args.a h.result.ends count h.result.lowest.first h.result.lowest.count h.result.size (rw h.ensures.0 at h.result.total) left nz v c.ends_are.result (ap not c.if-not-ends_are.true)
+    (ends_beside _ _ _ _ c.ends_of-m.ensures.2 count c.ends_are.ensures)
 
 pub returns : goal.returns
-returns c = let w = (let h_written : let e = c.ends_of-m in let a = c.args in (e.result ≤ 2 * length a.set.now) × (e.result ≡ length (ends_of (field_at a.rules.now a.field) a.set.now)) × (take e.result e.new.ends ≡ ends_of (field_at a.rules.now a.field) a.set.now) = rw append-nil at c.ends_of-m.ensures in h_written) in low_is _ _ _ _ _ c.ends_of-m.result _ w.1 w.2 c.blocks_for.ensures c.ends_are.result (ap not c.if-not-ends_are.false) c.ends_are.ensures c.if-words-b.false
+returns c =
+    let h = c.at-chain in
+    let count = h.ensures.1 ∙ c.ends_of-m.ensures.1 in (
+      h.ensures.0,
+      (low_is _ _ _ _ c.args.a h.result.ends count h.result.lowest.first h.result.lowest.count h.result.size (rw h.ensures.0 at h.result.total) c.ends_are.result (ap not c.if-not-ends_are.false) (ends_beside _ _ _ _ c.ends_of-m.ensures.2 count c.ends_are.ensures)
+          (rw c.past.ensures at c.if-words-past.false)),
+    )

@@ -3,8 +3,8 @@
 use Rattle.blocks.proofs.Writing.{Climbs}
 use Rattle.levels.proofs.upper_is.Given as goal
 
-abbrev pub invariant-loop-left : goal.invariant-loop-left
-invariant-loop-left l = Climbs l.words l.words l.a l.from l.k l.at l.left
+abbrev pub invariant-loop-above : goal.invariant-loop-above
+invariant-loop-above l = Climbs l.words l.words l.fn.chain.root l.fn.chain.lowest.first l.fn.chain.ends l.level.first l.level.count
 
-abbrev pub decreases-loop-left : goal.decreases-loop-left
-decreases-loop-left l = l.left
+abbrev pub decreases-loop-above : goal.decreases-loop-above
+decreases-loop-above l = l.level.count

@@ -1,7 +1,6 @@
 -- `lists::apply_all` meets its contract. The invariant: the front is that of a table in which the edits that are left are accepted, and come to the table after all of them.
 -- Assumes nothing.
-use mathlib.Core.Path.{◌≡◌}
-use Prim.Native.Nat.{ℕ, ◌+◌, ◌-◌, ◌*◌, ◌≤◌}
+use Prim.Native.Nat.{ℕ, ◌+◌, ◌-◌, ◌*◌}
 use lib.ListN.{length}
 use Rattle.model.specs.Table.{Table}
 use Rattle.table.specs.Rows.{kind_of}
@@ -11,8 +10,4 @@ use Rattle.lists.proofs.Applied.{Still}
 use Rattle.lists.proofs.apply_all.Given as goal
 
 abbrev pub invariant-loop-i : goal.invariant-loop-i
-invariant-loop-i l = (l.i ≤ l.count) × (l.at ≡ (l.shape.width + 1) * l.i) × (length l.front ≡ length l.initial.front)
-    × ((c : ℕ) (t : Table) → Fronts (kind_of l.tops l.shape) c t (edits_from (length l.tops) (l.shape.width + 1) l.count l.edits 0) l.initial.front → Still (kind_of l.tops l.shape) c (edits_from (length l.tops) (l.shape.width + 1) (l.count - l.i) l.edits l.at) l.front (edited_all t (edits_from (length l.tops) (l.shape.width + 1) l.count l.edits 0)))
-
-abbrev pub decreases-loop-i : goal.decreases-loop-i
-decreases-loop-i l = l.count - l.i
+invariant-loop-i l = (c : ℕ) (t : Table) → Fronts (kind_of l.shape) c t (edits_from (length l.shape.tops.now) (l.shape.width + 1) l.count l.edits 0) l.initial.front → Still (kind_of l.shape) c (edits_from (length l.shape.tops.now) (l.shape.width + 1) (l.count - l.i) l.edits ((l.shape.width + 1) * l.i)) l.front (edited_all t (edits_from (length l.shape.tops.now) (l.shape.width + 1) l.count l.edits 0))

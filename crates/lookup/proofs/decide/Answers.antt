@@ -9,5 +9,5 @@ use Rattle.lookup.proofs.decide.Goals as goal
 pub returns : goal.returns
 returns c =
     let a = c.args in
-    let k = kind_of a.tops.now a.shape in
-    c.found_in.ensures ∙ ap (found_in k a.words.now) (c.walk.ensures ∙ part_is k a.words.now a.values.now _ _ c.requires.1 c.rows_end-from.ensures.0)
+    let k = kind_of a.shape.now in
+    c.found_in.ensures ∙ ap (found_in k a.words.now) (c.walk.ensures ∙ part_is k a.words.now a.values.now _ _ c.requires.0 c.rows_end-from.ensures.0)

@@ -8,9 +8,9 @@ use Rattle.plant.proofs.plant.Goals as goal
 pub build-requires : goal.build-requires
 build-requires c =
     let a = c.args in
-    plantable (kind_of a.tops.now a.shape) a.c a.words.now _ c.rows_end-from.ensures.0 c.requires.3 a.n _ c.places.ensures c.places.auto.out c.requires.1 c.requires.2 (omega (arith, c.requires.0.ends, c.requires.0.narrow)) c.requires.4
+    plantable (kind_of a.shape.now) a.c a.words.now _ c.rows_end-from.ensures.0 c.requires.2 a.n _ c.places.ensures c.places.auto.out c.requires.0 c.requires.1 (omega (arith, c.args.shape.now.shaped.ends, c.args.shape.now.shaped.narrow)) c.requires.3
 
 pub returns : goal.returns
 returns c =
     let a = c.args in
-    sets_planted (kind_of a.tops.now a.shape) a.c a.words.now _ c.rows_end-from.ensures.0 c.requires.3 a.n _ c.places.ensures _ c.build.ensures
+    sets_planted (kind_of a.shape.now) a.c a.words.now _ c.rows_end-from.ensures.0 c.requires.2 a.n _ c.places.ensures _ c.build.ensures

@@ -1,24 +1,21 @@
--- `reading::cells` meets its contract, by that of the kind that is chosen.
+-- `reading::cells` meets its contract: the cells of the kind that is chosen, or 0.
 -- Assumes nothing.
-use mathlib.Core.Path.{◌≡◌, refl, sym, ◌∙◌}
-use mathlib.Core.Bool.{true, false}
+use mathlib.Core.Path.{◌≡◌, subst, ◌∙◌}
+use borrow.Author.Rules.{rules}
+use Rattle.std.specs.Prelude.{IfOk}
 use Rattle.model.specs.Table.{Kind}
-use Rattle.ipv4.proofs.Chosen.{lent, chosen}
+use Rattle.model.specs.Ipv4.{kind_in}
+use Rattle.table.specs.Rows.{kind_of}
+use Rattle.refusal.specs.Refusals.{answer_of}
 use Rattle.layout.specs.Store.{cells_says, cells_gives}
+use Rattle.reading.proofs.Found.{cells_or}
 use Rattle.reading.proofs.cells.Goals as goal
-
-pub cells-requires : goal.cells-requires
-cells-requires c = lent true _ c.shape.ensures _ _ refl refl
-
-pub returns-then-is_large : goal.returns-then-is_large
-returns-then-is_large c =
-    let a = c.args in
-    chosen true _ c.shape.ensures (λ (q : Kind). (c.cells.result.answer ≡ cells_says q a.words.now) × (c.cells.result.cells ≡ cells_gives q a.words.now)) a.words.now (sym c.if-is_large.true ∙ c.is_large.ensures) c.cells.ensures
-
-pub cells-requires-2 : goal.cells-requires-2
-cells-requires-2 c = lent false _ c.shape-2.ensures _ _ refl refl
 
 pub returns : goal.returns
 returns c =
-    let a = c.args in
-    chosen false _ c.shape-2.ensures (λ (q : Kind). (c.cells-2.result.answer ≡ cells_says q a.words.now) × (c.cells-2.result.cells ≡ cells_gives q a.words.now)) a.words.now (sym c.if-is_large.false ∙ c.is_large.ensures) c.cells-2.ensures
+    let ws = c.args.words.now in
+    let w = c.with_scratch.ensures in
+    let e : answer_of c.with_scratch.result ≡ cells_says (kind_in ws) ws = search rules in
+    let h : IfOk c.with_scratch.result (λ n. n ≡ cells_gives (kind_of w.0.now) ws) = search rules in
+    let i = subst (λ (k : Kind). IfOk c.with_scratch.result (λ n. n ≡ cells_gives k ws)) w.5 h in
+    (c.from.ensures.0 ∙ e, c.from.ensures.1 ∙ cells_or (kind_in ws) ws c.with_scratch.result e i)

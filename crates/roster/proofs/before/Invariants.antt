@@ -1,14 +1,10 @@
 -- `roster::before` meets its contract. The invariant: no rule behind place p of the set is ahead of the number.
 -- Assumes nothing.
-use mathlib.Core.List.{◌++◌}
-use Prim.Native.Nat.{◌-◌, ◌≤◌}
+use Prim.Native.Nat.{◌≤◌}
 use Rattle.model.specs.Table.{Kind, Table}
 use Rattle.table.specs.Rows.{ahead}
 use Rattle.roster.specs.Inner.{Named}
 use Rattle.roster.proofs.before.Given as goal
 
 abbrev pub invariant-loop-p : goal.invariant-loop-p
-invariant-loop-p l = (l.p ≤ l.n) × ((k : Kind) (t : Table) → Named k (l.rows ++ l.more) l.n l.set t → ahead l.x t.rules ≤ l.p)
-
-abbrev pub decreases-loop-p : goal.decreases-loop-p
-decreases-loop-p l = l.p
+invariant-loop-p l = (k : Kind) (t : Table) → Named k l.rows l.n l.set t → ahead l.x t.rules ≤ l.p

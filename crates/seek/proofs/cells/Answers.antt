@@ -11,20 +11,20 @@ use Rattle.seek.proofs.cells.Goals as goal
 pub returns-then-not-check : goal.returns-then-not-check
 returns-then-not-check c =
     let a = c.args in
-    cells_refused (kind_of a.tops.now a.shape) c.requires.0 a.words.now (sym c.check.ensures ∙ c.if-not-check.true)
+    (cells_refused (kind_of a.shape.now) a.shape.now.shaped a.words.now (sym c.check.ensures ∙ c.if-not-check.true), tt)
 
-pub bounds-words-from : goal.bounds-words-from
-bounds-words-from c =
+pub bounds-words-rows_end : goal.bounds-words-rows_end
+bounds-words-rows_end c =
     let a = c.args in
     let h = sym c.check.ensures ∙ c.if-not-check.false in
-    let o = sound (kind_of a.tops.now a.shape) c.requires.0 a.words.now h in
-    let w = sound_room (kind_of a.tops.now a.shape) c.requires.0 a.words.now o in
-    omega (arith, w.long, c.rows_end-from.ensures.0)
+    let o = sound (kind_of a.shape.now) a.shape.now.shaped a.words.now h in
+    let w = sound_room (kind_of a.shape.now) a.shape.now.shaped a.words.now o in
+    omega (arith, w.long, c.rows_end.ensures.0)
 
 pub returns : goal.returns
 returns c =
     let a = c.args in
     let h = sym c.check.ensures ∙ c.if-not-check.false in
-    let o = sound (kind_of a.tops.now a.shape) c.requires.0 a.words.now h in
-    let w = sound_room (kind_of a.tops.now a.shape) c.requires.0 a.words.now o in
-    cells_done (kind_of a.tops.now a.shape) c.requires.0 a.words.now h _ c.rows_end-from.ensures.0
+    let o = sound (kind_of a.shape.now) a.shape.now.shaped a.words.now h in
+    let w = sound_room (kind_of a.shape.now) a.shape.now.shaped a.words.now o in
+    cells_done (kind_of a.shape.now) a.shape.now.shaped a.words.now h _ c.rows_end.ensures.0

@@ -1,6 +1,5 @@
 -- `series::first_refusal` meets its contract. The invariant: the edits before are accepted, the set names the table that they leave, and what the others answer in it is what the whole list answers.
 -- Assumes nothing.
-use mathlib.Core.Path.{◌≡◌}
 use mathlib.Core.List.{◌++◌}
 use Prim.Native.Nat.{◌+◌, ◌-◌, ◌*◌, ◌≤◌}
 use lib.ListN.{length}
@@ -10,8 +9,6 @@ use Rattle.series.proofs.Decided.{Going}
 use Rattle.series.proofs.first_refusal.Given as goal
 
 abbrev pub invariant-loop-i : goal.invariant-loop-i
-invariant-loop-i l = (l.i ≤ l.count) × (l.at ≡ (l.shape.width + 1) * l.i) × (l.m ≤ l.shape.most) × (length l.set ≡ length l.initial.set) × (length l.sets ≡ length l.initial.sets) × (length l.ends ≡ length l.initial.ends)
-    × Going (kind_of l.tops l.shape) l.c (l.rows ++ l.edits) l.m l.set l.i (edits_from (length l.tops) (l.shape.width + 1) (l.count - l.i) l.edits l.at) (first_refusal (kind_of l.tops l.shape) l.c 0 (table_in (kind_of l.tops l.shape) l.n l.rows) (edits_from (length l.tops) (l.shape.width + 1) l.count l.edits 0))
-
-abbrev pub decreases-loop-i : goal.decreases-loop-i
-decreases-loop-i l = l.count - l.i
+invariant-loop-i l =
+    (l.m ≤ l.shape.most)
+    × Going (kind_of l.shape) l.c (l.rows ++ l.edits) l.m l.set l.i (edits_from (length l.shape.tops.now) (l.shape.width + 1) (l.count - l.i) l.edits ((l.shape.width + 1) * l.i)) (first_refusal (kind_of l.shape) l.c 0 (table_in (kind_of l.shape) l.n l.rows) (edits_from (length l.shape.tops.now) (l.shape.width + 1) l.count l.edits 0))

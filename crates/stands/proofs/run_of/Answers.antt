@@ -1,31 +1,22 @@
--- `stands::run_of` meets its contract. The invariant: the cells from `k` to `next` have the ends from the `i`-th on.
+-- `stands::run_of` meets its contract. The invariant: the cells from `k` to `next` have the ends that the iterator has handed out.
 -- Assumes nothing.
-use mathlib.Core.Bool.{not}
-use mathlib.Core.Path.{ap}
-use mathlib.Core.Path.{refl}
-use native.Mathlib.Omega.{arith}
 use Rattle.stands.proofs.Steps.{going_start, going_end, going_full, going_no, going_on}
 use Rattle.stands.proofs.run_of.Goals as goal
+use Rattle.stands.proofs.run_of.Goals.{then-c-next-via-then-c-next, then-c-next-via-else-c-next+then-not-head_is}
 
-pub loop-i-init : goal.loop-i-init
-loop-i-init c = going_start _ _ _ _ _ c.requires.1 refl
+pub loop-end-init : goal.loop-end-init
+loop-end-init c = rw (c.into_iter-end-iterator.ensures.into_iter_gives, c.rev-end-items.ensures.source, c.iter.ensures.rest) (going_start _ _ _ _ c.requires.1)
 
--- no cell is left
+-- no cell is left, or the end or the next of a cell is wrong
 pub returns-then-c-next : goal.returns-then-c-next
-returns-then-c-next c = going_full c.loop-i.invariant c.loop-i-test.true c.if-c-next.true
+returns-then-c-next c =
+    elim c.then-c-next.branch [
+      | then-c-next-via-then-c-next w ↦ going_full c.loop-end.invariant _ _ c.in-Some.ensures.steps w.if-c-next.true
+      | then-c-next-via-else-c-next+then-not-head_is w ↦ going_no c.loop-end.invariant _ _ c.in-Some.ensures.steps w.head_is.ensures w.if-not-head_is.true
+    ]
 
-pub offset_bounds-ends-i : goal.offset_bounds-ends-i
-offset_bounds-ends-i c = omega (arith, c.loop-i.invariant.most, c.loop-i-test.true)
-
-pub bounds-ends-i : goal.bounds-ends-i
-bounds-ends-i c = omega (arith, c.loop-i.invariant.most, c.loop-i-test.true)
-
--- the end or the next of a cell is wrong
-pub returns-then-not-head_is : goal.returns-then-not-head_is
-returns-then-not-head_is c = going_no c.loop-i.invariant c.loop-i-test.true refl c.head_is.ensures (ap not c.if-not-head_is.true)
-
-pub loop-i-preserved : goal.loop-i-preserved
-loop-i-preserved c = going_on c.loop-i.invariant c.loop-i-test.true refl c.if-c-next.false c.head_is.ensures (ap not c.if-not-head_is.false)
+pub loop-end-preserved : goal.loop-end-preserved
+loop-end-preserved c = going_on c.loop-end.invariant _ _ c.in-Some.ensures.steps c.head_is.ensures c.if-c-next.false c.if-not-head_is.false
 
 pub returns : goal.returns
-returns c = going_end c.loop-i.invariant c.loop-i-test.false
+returns c = going_end c.loop-end.invariant c.in-None.ensures.steps.0

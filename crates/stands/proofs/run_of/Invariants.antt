@@ -1,10 +1,7 @@
--- `stands::run_of` meets its contract. The invariant: the cells from `k` to `next` have the ends from the `i`-th on.
+-- `stands::run_of` meets its contract. The invariant: the cells from `k` to `next` have the ends that the iterator has handed out.
 -- Assumes nothing.
 use Rattle.stands.proofs.Steps.{Going}
 use Rattle.stands.proofs.run_of.Given as goal
 
-abbrev pub invariant-loop-i : goal.invariant-loop-i
-invariant-loop-i l = Going l.words l.c l.ends l.k l.next l.head l.i
-
-abbrev pub decreases-loop-i : goal.decreases-loop-i
-decreases-loop-i l = l.i
+abbrev pub invariant-loop-end : goal.invariant-loop-end
+invariant-loop-end l = Going l.words l.c l.ends l.k l.next l.head l.end-iterator.iter.rest.now

@@ -1,6 +1,6 @@
 -- `table::all_right` meets its contract. The invariant: the rules that are left decide.
 -- Assumes nothing.
-use Prim.Native.Nat.{◌≤◌, ◌-◌}
+use Prim.Native.Nat.{◌-◌}
 use mathlib.Core.Path.{◌≡◌}
 use lib.ListN.{drop}
 use Rattle.model.specs.Table.{all_right}
@@ -8,7 +8,4 @@ use Rattle.table.specs.Rows.{kind_of, table_in}
 use Rattle.table.proofs.all_right.Given as goal
 
 abbrev pub invariant-loop-p : goal.invariant-loop-p
-invariant-loop-p l = (l.p ≤ l.n) × (all_right (kind_of l.tops l.shape) (table_in (kind_of l.tops l.shape) l.n l.rows).rules ≡ all_right (kind_of l.tops l.shape) (drop l.p (table_in (kind_of l.tops l.shape) l.n l.rows).rules))
-
-abbrev pub decreases-loop-p : goal.decreases-loop-p
-decreases-loop-p l = l.n - l.p
+invariant-loop-p l = (all_right (kind_of l.shape) (table_in (kind_of l.shape) l.n l.rows).rules ≡ all_right (kind_of l.shape) (drop l.p (table_in (kind_of l.shape) l.n l.rows).rules))

@@ -5,7 +5,4 @@ use Rattle.table.specs.Rows.{kind_of, table_in, ahead}
 use Rattle.table.proofs.before.Given as goal
 
 abbrev pub invariant-loop-p : goal.invariant-loop-p
-invariant-loop-p l = (l.p ≤ l.n) × (ahead l.x (table_in (kind_of l.tops l.shape) l.n l.rows).rules ≤ l.p)
-
-abbrev pub decreases-loop-p : goal.decreases-loop-p
-decreases-loop-p l = l.p
+invariant-loop-p l = (ahead l.x (table_in (kind_of l.shape) l.n l.rows).rules ≤ l.p)

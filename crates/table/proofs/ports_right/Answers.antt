@@ -6,16 +6,16 @@ use Rattle.table.proofs.ports_right.Goals as goal
 
 -- 0 to 0 in the mark
 pub returns-then-asks : goal.returns-then-asks
-returns-then-asks c = let a = c.args in mark_none (kind_of a.tops.now a.shape) c.requires.1 a.rows.now a.place c.asks.ensures c.if-asks.true
+returns-then-asks c = let a = c.args in mark_none (kind_of a.shape.now) a.shape.now.shaped.last a.rows.now a.place c.asks.ensures c.if-asks.true
 
 -- the destination port is narrow
 pub returns-then-not-asks : goal.returns-then-not-asks
 returns-then-not-asks c =
     let a = c.args in
-    first_narrow (kind_of a.tops.now a.shape) c.requires.1 a.rows.now a.place c.asks.ensures c.if-asks.false c.word.ensures c.asks-2.ensures c.if-not-asks.true
+    first_narrow (kind_of a.shape.now) a.shape.now.shaped.last a.rows.now a.place c.asks.ensures c.if-asks.false c.word.ensures c.asks-2.ensures c.if-not-asks.true
 
 -- it is full: the source port says
 pub returns : goal.returns
 returns c =
     let a = c.args in
-    by_second (kind_of a.tops.now a.shape) c.requires.1 a.rows.now a.place c.asks.ensures c.if-asks.false c.word.ensures c.asks-2.ensures c.if-not-asks.false c.word-2.ensures c.asks-3.ensures
+    by_second (kind_of a.shape.now) a.shape.now.shaped.last a.rows.now a.place c.asks.ensures c.if-asks.false c.word.ensures c.asks-2.ensures c.if-not-asks.false c.word-top.ensures c.asks-3.ensures

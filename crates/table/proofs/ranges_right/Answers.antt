@@ -1,33 +1,31 @@
 -- `table::ranges_right` meets its contract. The invariant: the fields that are left decide.
 -- Assumes nothing.
-use mathlib.Core.Path.{refl, sym, ◌∙◌}
+use native.Mathlib.Omega.{arith}
+use mathlib.Core.Path.{sym, ◌∙◌}
 use borrow.Author.Rules.{rules}
 use Rattle.table.proofs.Laws.{right_end, right_crossed, right_above, right_on}
 use Rattle.table.proofs.ranges_right.Goals as goal
 
-pub loop-f-init : goal.loop-f-init
-loop-f-init c = (search rules, refl)
-
-pub returns-then-top-low : goal.returns-then-top-low
-returns-then-top-low c =
-    let l = c.loop-f in
+pub returns-then-end-low : goal.returns-then-end-low
+returns-then-end-low c =
+    let l = c.loop-top in
     let a = c.args in
-    sym (l.invariant.1 ∙ right_crossed a.rows.now a.place a.tops.now l.f _ _ c.loop-f-test.true c.low.ensures c.high-top.ensures c.if-top-low.true)
+    sym (l.invariant.1 ∙ right_crossed a.rows.now a.place a.shape.now.tops.now l.f _ _ (omega arith) (rw c.of-table.ensures at c.low.ensures) (rw c.of-table.ensures at c.high-end.ensures) c.if-end-low.true)
 
-pub returns-then-tops-f : goal.returns-then-tops-f
-returns-then-tops-f c =
-    let l = c.loop-f in
+pub returns-then-top-end : goal.returns-then-top-end
+returns-then-top-end c =
+    let l = c.loop-top in
     let a = c.args in
-    sym (l.invariant.1 ∙ right_above a.rows.now a.place a.tops.now l.f _ _ c.loop-f-test.true c.low.ensures c.high-top.ensures c.if-top-low.false c.if-tops-f.true)
+    sym (l.invariant.1 ∙ right_above a.rows.now a.place a.shape.now.tops.now l.f _ _ (omega arith) (rw c.of-table.ensures at c.low.ensures) (rw c.of-table.ensures at c.high-end.ensures) c.if-end-low.false (rw (sym l.invariant.0) at c.if-top-end.true))
 
-pub loop-f-preserved : goal.loop-f-preserved
-loop-f-preserved c =
-    let l = c.loop-f in
+pub loop-top-preserved : goal.loop-top-preserved
+loop-top-preserved c =
+    let l = c.loop-top in
     let a = c.args in
-    (search rules, l.invariant.1 ∙ right_on a.rows.now a.place a.tops.now l.f _ _ c.loop-f-test.true c.low.ensures c.high-top.ensures c.if-top-low.false c.if-tops-f.false)
+    (search rules, l.invariant.1 ∙ right_on a.rows.now a.place a.shape.now.tops.now l.f _ _ (omega arith) (rw c.of-table.ensures at c.low.ensures) (rw c.of-table.ensures at c.high-end.ensures) c.if-end-low.false (rw (sym l.invariant.0) at c.if-top-end.false))
 
 pub returns : goal.returns
 returns c =
-    let l = c.loop-f in
+    let l = c.loop-top in
     let a = c.args in
-    sym (l.invariant.1 ∙ right_end a.rows.now a.place a.tops.now l.f c.loop-f-test.false)
+    sym (l.invariant.1 ∙ right_end a.rows.now a.place a.shape.now.tops.now l.f (omega arith))

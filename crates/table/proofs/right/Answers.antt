@@ -6,7 +6,7 @@ use Rattle.table.proofs.Laws.{rule_right_lem}
 use Rattle.table.proofs.right.Goals as goal
 
 pub returns-then-not-ranges_right : goal.returns-then-not-ranges_right
-returns-then-not-ranges_right c = let a = c.args in sym (rule_right_lem (kind_of a.tops.now a.shape) a.rows.now a.place ∙ rw (sym c.ranges_right.ensures ∙ c.if-not-ranges_right.true))
+returns-then-not-ranges_right c = let a = c.args in sym (rule_right_lem (kind_of a.shape.now) a.rows.now a.place ∙ rw (sym c.ranges_right.ensures ∙ c.if-not-ranges_right.true))
 
 pub returns : goal.returns
-returns c = let a = c.args in c.ports_right.ensures ∙ sym (rule_right_lem (kind_of a.tops.now a.shape) a.rows.now a.place ∙ rw (sym c.ranges_right.ensures ∙ c.if-not-ranges_right.false))
+returns c = let a = c.args in c.ports_right.ensures ∙ sym (rule_right_lem (kind_of a.shape.now) a.rows.now a.place ∙ rw (sym c.ranges_right.ensures ∙ c.if-not-ranges_right.false))

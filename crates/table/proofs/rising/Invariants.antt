@@ -1,6 +1,6 @@
 -- `table::rising` meets its contract. The invariant: the rules that are left decide.
 -- Assumes nothing.
-use Prim.Native.Nat.{◌≤◌, ◌-◌}
+use Prim.Native.Nat.{◌-◌}
 use mathlib.Core.Path.{◌≡◌}
 use lib.ListN.{drop}
 use Rattle.model.specs.Table.{rising_from}
@@ -8,7 +8,4 @@ use Rattle.table.specs.Rows.{kind_of, table_in}
 use Rattle.table.proofs.rising.Given as goal
 
 abbrev pub invariant-loop-p : goal.invariant-loop-p
-invariant-loop-p l = (l.p ≤ l.n) × (rising_from 0 (table_in (kind_of l.tops l.shape) l.n l.rows).rules ≡ rising_from l.least (drop l.p (table_in (kind_of l.tops l.shape) l.n l.rows).rules))
-
-abbrev pub decreases-loop-p : goal.decreases-loop-p
-decreases-loop-p l = l.n - l.p
+invariant-loop-p l = (rising_from 0 (table_in (kind_of l.shape) l.n l.rows).rules ≡ rising_from l.least (drop l.p (table_in (kind_of l.shape) l.n l.rows).rules))

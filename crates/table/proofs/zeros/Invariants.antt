@@ -6,7 +6,4 @@ use lib.ListN.{get_or}
 use Rattle.table.proofs.zeros.Given as goal
 
 abbrev pub invariant-loop-i : goal.invariant-loop-i
-invariant-loop-i l = (l.from ≤ l.i) × (l.i ≤ l.to) × ((j : ℕ) → l.from ≤ j → j < l.i → get_or l.rows j 0 ≡ 0)
-
-abbrev pub decreases-loop-i : goal.decreases-loop-i
-decreases-loop-i l = l.to - l.i
+invariant-loop-i l = (j : ℕ) → l.from ≤ j → j < l.i → get_or l.rows j 0 ≡ 0

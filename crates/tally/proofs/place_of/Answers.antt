@@ -1,33 +1,20 @@
--- `tally::place_of` meets its contract. The loop's invariant: none of the keys passed is the number's, and `free` is the first unused place among them, or the number of keys.
+-- `tally::place_of` meets its contract. The loop's invariant: none of the keys passed is the number's, and `free` is the first unused place among them.
 -- Assumes nothing.
-use Rattle.std.proofs.Common.{sym, ◌∙◌, arith}
-use Rattle.tally.specs.Tally.{keyed}
-use Rattle.tally.proofs.Places.{none_more, free_first, free_next, held_at, new_at, full_at}
+use Rattle.std.proofs.Common.{sym, arith}
+use Rattle.tally.proofs.Places.{held_at, new_at, full_at}
 use Rattle.tally.proofs.place_of.Goals as goal
 
-pub loop-i-init : goal.loop-i-init
-loop-i-init c = (omega arith, λ j l. absurd (omega arith), free_first c.args.key.now)
-
-pub returns-then-holds : goal.returns-then-holds
-returns-then-holds c =
+pub returns-then-key-number : goal.returns-then-key-number
+returns-then-key-number c =
     let l = c.loop-i in
-    sym (held_at c.args.key.now c.args.number l.i (omega arith) l.invariant.1 (sym c.holds.ensures ∙ c.if-holds.true))
+    sym (held_at c.args.keys.now c.args.number l.i (omega arith) l.invariant.0 c.if-key-number.true c.if-key-gt65535.false)
 
-pub loop-i-preserved : goal.loop-i-preserved
-loop-i-preserved c =
+pub returns-in-Some : goal.returns-in-Some
+returns-in-Some c =
     let l = c.loop-i in
-    let keys = c.args.key.now in (
-      omega arith,
-      none_more (keyed c.args.number) keys l.i l.invariant.1 (sym c.holds.ensures ∙ c.if-holds.false),
-      rw c.unused_yet-free.ensures (free_next keys l.i l.free (omega arith) l.invariant.2),
-    )
+    sym (new_at c.args.keys.now c.args.number l.i (omega arith) l.invariant.0 _ _ c.in-Some.is l.invariant.1)
 
-pub returns-then-free-n : goal.returns-then-free-n
-returns-then-free-n c =
+pub returns-in-None : goal.returns-in-None
+returns-in-None c =
     let l = c.loop-i in
-    sym (new_at c.args.key.now c.args.number l.i l.free (omega arith) l.invariant.1 l.invariant.2 (omega arith))
-
-pub returns-else-free-n : goal.returns-else-free-n
-returns-else-free-n c =
-    let l = c.loop-i in
-    sym (full_at c.args.key.now c.args.number l.i l.free (omega arith) l.invariant.1 l.invariant.2 (omega arith))
+    sym (full_at c.args.keys.now c.args.number l.i (omega arith) l.invariant.0 _ c.in-None.is l.invariant.1)
