@@ -77,7 +77,7 @@ fn tree_is(
     requires { (length words.now ≡ 2 + 8 * c) × (c ≤ 65536) × (n ≤ 512) × Scratch (suc n) (length shape.now.tops.now) sets.old ends.old }
     ensures { result ≡ same words.now (part c (tree_at rows.now 0 (length shape.now.tops.now) (places_of shape.now.width n))) }
 {
-    table::places(shape, n, sets);
+    shape.places(n, sets);
     compare::part_is(
         words,
         c,

@@ -3,11 +3,9 @@
 // Only the loop and the output are here. What the store holds is said by `rules`, what the bytes of a capture are is said by `capture`, what was read of a record and its line by `listing`, and what a packet gets by `lookup`. Memory is the same for a capture of any size.
 #![tactic(auto)]
 
-ghost use Rattle.std.specs.Prelude.{◌≡◌, ◌≤◌, OnOk};
-ghost use Rattle.arrayvec.specs.ArrayString.{array_string_len};
+ghost use Rattle.std.specs.Prelude.{◌≡◌, ◌≤◌, length, IfOk};
 ghost use Rattle.bench.specs.Room.{staying};
 
-use arrayvec::ArrayString;
 use octets::Order;
 use std::io;
 use std::io::Write;
@@ -33,31 +31,33 @@ fn list<R: io::Read, W: Write>(
 ) -> io::Result<()> {
     let mut head = [0u8; 16];
     let mut bytes = [0u8; 16384];
-    let mut lines = ArrayString::<4096>::new();
+    let mut lines = [0u8; 4096];
+    let mut used = 0;
     for listed in 0..u64::MAX {
         match listing::read_record(order, input, &mut head, &mut bytes) {
             Err(end) => {
                 let number = listing::number_of(end);
-                output.write_all(lines.as_str().as_bytes())?;
+                output.write_all(&lines[..used])?;
                 return writeln!(output, "end {listed} {number}");
             }
             Ok(n) => {
                 let found = lookup::lookup_packet(words, &bytes[..n]);
-                make_room(output, &mut lines)?;
-                listing::put_line(&mut lines, listed + 1, found);
+                used = make_room(output, &lines, used)?;
+                used = listing::put_line(&mut lines, used, listed + 1, found);
             }
         }
     }
     Ok(())
 }
 
-// Writes the lines where the next one might not fit behind them.
-fn make_room<W: Write>(output: &mut W, lines: &mut ArrayString<4096>) -> io::Result<()>
-    ensures { OnOk result ((array_string_len lines.new ≤ 3991) × (lines.new.bytes ≡ staying lines.old.bytes)) }
+// Writes the lines where the next one might not fit, and answers how many bytes stay.
+fn make_room<W: Write>(output: &mut W, lines: &[u8], used: usize) -> io::Result<usize>
+    requires { (length lines.now ≡ 4096) × (used ≤ 4096) }
+    ensures { IfOk result (λ n. (n ≤ 3991) × (n ≡ staying used)) }
 {
-    if 3991 < lines.len() {
-        output.write_all(lines.as_str().as_bytes())?;
-        lines.clear();
+    if used <= 3991 {
+        return Ok(used);
     }
-    Ok(())
+    output.write_all(&lines[..used])?;
+    Ok(0)
 }

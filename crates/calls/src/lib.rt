@@ -1,6 +1,10 @@
 // The calls of the library on the case of a line: what is given as numbers and bytes, and what is answered as sixteen numbers, with zeros behind the last.
 #![tactic(auto)]
 
+ghost use Rattle.std.specs.Prelude.{◌≡◌, ◌≢◌, ◌∷◌, false, replicate, None, Some, IfSome};
+ghost use Rattle.calls.specs.Calls.{word_of, given_to};
+ghost use Rattle.calls.specs.declared.Call.{Call};
+
 use header::Packet;
 use ipv4::Rule;
 use lookup::Found;
@@ -27,7 +31,10 @@ pub enum Call {
 
 impl Call {
     // The call of a word, if there is such a call.
-    pub fn of(word: &[u8]) -> Option<Call> {
+    pub fn of(word: &[u8]) -> Option<Call>
+        ensures named { IfSome result (λ k. word.now ≡ word_of k) }
+        ensures every { (k : Call) → word.now ≡ word_of k → result ≡ Some k }
+    {
         match word {
             b"room" => Some(Call::Room),
             b"swap" => Some(Call::Swap),
@@ -47,11 +54,15 @@ impl Call {
 }
 
 // Makes the call of a case on the words of a store. Where there is no such call, or it is given too many or too few numbers, every number is 4,294,967,295.
-pub fn answers(call: Option<Call>, case: &Case, words: &mut [u32]) -> [u32; 16] {
-    let (Some(call), Ok(given)) = (call, &case.given) else {
+pub fn answers(call: Option<Call>, case: &Case, words: &mut [u32]) -> [u32; 16]
+    ensures no_call { call ≡ None → result ≡ replicate 16 4294967295 }
+    ensures spoilt { case.now.whole ≡ false → result ≡ replicate 16 4294967295 }
+    ensures count { IfSome call (λ k. case.now.given_count ≢ given_to k → result ≡ replicate 16 4294967295) }
+{
+    let (Some(call), Some(given)) = (call, case.given()) else {
         return [u32::MAX; 16];
     };
-    match (call, given.as_slice()) {
+    match (call, given) {
         (Call::Room, [count, value]) => {
             words.fill(*value);
             first(*count)
@@ -110,14 +121,16 @@ pub fn answers(call: Option<Call>, case: &Case, words: &mut [u32]) -> [u32; 16] 
             };
             found(lookup::lookup(words, packet))
         }
-        (Call::Packet, []) => found(lookup::lookup_packet(words, &case.bytes)),
-        (Call::Header, []) => values(header::read_header(&case.bytes)),
+        (Call::Packet, []) => found(lookup::lookup_packet(words, case.bytes())),
+        (Call::Header, []) => values(header::read_header(case.bytes())),
         _ => [u32::MAX; 16],
     }
 }
 
 // One number.
-pub fn first(a: u32) -> [u32; 16] {
+pub fn first(a: u32) -> [u32; 16]
+    ensures { result ≡ a ∷ replicate 15 0 }
+{
     padded(&[a])
 }
 

@@ -50,9 +50,10 @@ fn run<W: Write>(text: &[u8], words: &mut Words, output: &mut W) -> io::Result<T
     };
     let mut tally = Tally::default();
     for (number, line) in (1u64..).zip(text.split(|b| *b == b'\n')) {
-        let Some(case) = script::read(line) else {
+        let case = script::read(line);
+        if !case.is_there() {
             continue;
-        };
+        }
         let call = Call::of(case.word);
         hand.turn(call, &case);
         tally.cases = tally.cases.saturating_add(1);

@@ -27,7 +27,7 @@ fn fits(
     requires { (n < 512) × (p ≤ n) × (c ≤ 65536) × (length rows.now ≤ 65535) × Scratch (suc (suc n)) (length shape.now.tops.now) sets.old ends.old }
     ensures { result ≡ leb (cells (tree_at (rows.now ++ row.now) 0 (length shape.now.tops.now) (take p (places_of shape.now.width n) ++ (length rows.now ∷ drop p (places_of shape.now.width n))))) c }
 {
-    table::places(shape, n, sets);
+    shape.places(n, sets);
     rows::put_in(sets, p as usize, (n as usize) + 1, rows.len() as u16);
     let fields = shape.tops.len() as u32;
     let both = Rows::new(rows, row);
@@ -51,10 +51,10 @@ pub fn insert_into(
     if 65534 < number {
         return Err(Refusal::NumberTooHigh);
     }
-    if !table::right(row, 0, shape) {
+    if !shape.right(row, 0) {
         return Err(Refusal::WrongRange);
     }
-    let place = table::before(rows, n, shape, number);
+    let place = shape.before(rows, n, number);
     if table::stands_behind(rows, n, place, number, shape) {
         return Err(Refusal::NumberTaken);
     }
@@ -75,7 +75,7 @@ pub fn delete_from(rows: &[u32], n: u32, number: u32, shape: &Shape) -> Result<u
     if 65534 < number {
         return Err(Refusal::NumberTooHigh);
     }
-    let place = table::before(rows, n, shape, number);
+    let place = shape.before(rows, n, number);
     if !table::stands_behind(rows, n, place, number, shape) {
         return Err(Refusal::NotThere);
     }

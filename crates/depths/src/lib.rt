@@ -27,7 +27,7 @@ fn blocks_of(
     requires { (n ≤ 512) × Scratch (suc n) (length shape.now.tops.now) sets.old ends.old × (length out.old ≡ length shape.now.tops.now) }
     ensures { Met (weighed 0 (tree_at rows.now 0 (length shape.now.tops.now) (places_of shape.now.width n))) 0 1 result out.old out.new }
 {
-    table::places(shape, n, sets);
+    shape.places(n, sets);
     let rows = Rows::of(rows);
     let fields = shape.tops.len() as u32;
     deepest::of_chain(&rows, sets, (n as usize) + 1, 0, fields, 0, 1, ends, out)

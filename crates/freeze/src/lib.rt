@@ -39,14 +39,16 @@ pub fn total_in(
     Ok((shape.rows_end() as usize + 2 + 16 * blocks) as u32)
 }
 
-// Writes the front of an image: 0, the words of a store behind its number of cells up to its rows' end, and 0 and 0.
+// Writes the front of an image: 0, the words of a store behind its number of cells up to its rows' end, and 0 and 0. No word of it is written twice. (The library's `copy_from_slice` would have the C library move them.)
 fn put_front(front: &mut [u32], words: &[u32])
     requires { (length front.old ≡ length words.now + 2) × (0 < length words.now) }
     ensures { front.new ≡ (0 ∷ drop 1 words.now) ++ (0 ∷ 0 ∷ []) }
 {
     let n = words.len();
-    front[..n].copy_from_slice(words);
     front[0] = 0;
+    for i in 1..n {
+        front[i] = words[i];
+    }
     front[n] = 0;
     front[n + 1] = 0;
 }
@@ -84,14 +86,43 @@ pub fn total(words: &[u32]) -> Size
     }
 }
 
-// Freezes a store: its image is written into the first words of a slice that has room for it, and the words behind stay. 9, then 8 where the slice is shorter than the total; with a refusal nothing is written.
-pub fn freeze(words: &[u32], image: &mut [u32]) -> Result<(), Refusal>
-    ensures { (answer_of result ≡ freeze_says (kind_in words.now) words.now image.old) × (image.new ≡ freeze_words (kind_in words.now) words.now image.old) }
+// Writes the image of a store, if the words that it takes could be told and the slice has room for them.
+fn write_sized(
+    words: &[u32],
+    image: &mut [u32],
+    total: Result<u32, Refusal>,
+    shape: &Shape,
+) -> Result<(), Refusal>
+    requires { (answer_of total ≡ total_says (kind_of shape.now) words.now) × IfOk total (λ n. n ≡ total_gives (kind_of shape.now) words.now) }
+    ensures { (answer_of result ≡ freeze_says (kind_of shape.now) words.now image.old) × (image.new ≡ freeze_words (kind_of shape.now) words.now image.old) }
 {
-    let total = sized(words)?;
+    let total = total?;
     if image.len() < total as usize {
         return Err(Refusal::NoRoom);
     }
-    write_image(words, image, &ipv4::shape(ipv4::is_large(words)));
+    write_image(words, image, shape);
     Ok(())
+}
+
+// Freezes a store of a kind: its image is written into the first words of a slice that has room for it, and the words behind stay. 9, then 8 where the slice is shorter than the total; with a refusal nothing is written. The scratch is for the check.
+pub fn freeze_in(
+    words: &[u32],
+    image: &mut [u32],
+    shape: &Shape,
+    sets: &mut [u16],
+    ends: &mut [u32],
+) -> Result<(), Refusal>
+    requires { Scratch (suc shape.now.most) (length shape.now.tops.now) sets.old ends.old }
+    ensures { (answer_of result ≡ freeze_says (kind_of shape.now) words.now image.old) × (image.new ≡ freeze_words (kind_of shape.now) words.now image.old) }
+{
+    let total = total_in(words, shape, sets, ends);
+    write_sized(words, image, total, shape)
+}
+
+// Freezes a store of the kind that word 2 names. The scratch for the check is given back before the image is written.
+pub fn freeze(words: &[u32], image: &mut [u32]) -> Result<(), Refusal>
+    ensures { (answer_of result ≡ freeze_says (kind_in words.now) words.now image.old) × (image.new ≡ freeze_words (kind_in words.now) words.now image.old) }
+{
+    let total = sized(words);
+    write_sized(words, image, total, &ipv4::shape(ipv4::is_large(words)))
 }

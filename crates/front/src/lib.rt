@@ -13,10 +13,12 @@ fn write_head(head: &mut [u32], c: u32, n: u32, mark: u32)
     requires { 3 ≤ length head.old }
     ensures { head.new ≡ c ∷ n ∷ mark ∷ replicate (length head.old - 3) 0 }
 {
-    head.fill(0);
     head[0] = c;
     head[1] = n;
     head[2] = mark;
+    for i in 3..head.len() {
+        head[i] = 0;
+    }
 }
 
 // Writes the front of a store of c cells that holds the default rule alone, with an action.

@@ -63,5 +63,8 @@ module _ (es : List Edit) where
   all_laid = refl
 
 -- of a list no more than its edits are taken
+pub taken_few : (n i : ℕ) → i < taken n → (i < n) × (i < 32)
+taken_few n i h = by_test (ltb 32 n) (λ t. absurd (omega (arith, rw t at h))) (λ t. let a = ltb-false 32 n t in let b : i < n = rw t at h in (b, omega arith))
+
 pub taken_within : (n : ℕ) → taken n ≤ n
 taken_within n = by_test (ltb 32 n) (λ t. rw t (omega arith)) (λ t. rw t (omega arith))

@@ -100,10 +100,11 @@ pub fn lookup(image: &[u32], packet: Packet) -> Found
 pub fn lookup_packet(image: &[u32], packet: &[u8]) -> Found
     ensures { result ≡ image_packet image.now packet.now }
 {
-    match header::read_header(packet) {
-        Ok(values) => lookup(image, values),
-        Err(refusal) => Found::refused(refusal),
-    }
+    let read = header::read_header(packet);
+    let Ok(values) = read else {
+        return lookup::refuse(refusal::answer(read));
+    };
+    lookup(image, values)
 }
 
 // The same lookup, with a tally record: for the rule that decides it adds one packet and the packet's total length. 13 where the rule's number finds no place; then, and with every other refusal, nothing is changed.

@@ -20,7 +20,7 @@ fn cells_fit(rows: &[u32], n: u32, shape: &Shape, sets: &mut [u16], ends: &mut [
     requires { (n ≤ 512) × Scratch (suc n) (length shape.now.tops.now) sets.old ends.old }
     ensures { result ≡ leb (cells (tree_at rows.now 0 (length shape.now.tops.now) (places_of shape.now.width n))) 65536 }
 {
-    table::places(shape, n, sets);
+    shape.places(n, sets);
     let fields = shape.tops.len() as u32;
     let rows = Rows::of(rows);
     count::count_chain(&rows, sets, (n as usize) + 1, 0, fields, 65536, ends) <= 65536
@@ -38,7 +38,7 @@ fn blocks_are(
     requires { (length words.now ≤ 16777216) × (n ≤ 512) × Scratch (suc n) (length shape.now.tops.now) sets.old ends.old }
     ensures { result ≡ same words.now (blocks_text (tree_at rows.now 0 (length shape.now.tops.now) (places_of shape.now.width n))) }
 {
-    table::places(shape, n, sets);
+    shape.places(n, sets);
     verify::tree_is(
         words,
         rows,

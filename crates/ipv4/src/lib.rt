@@ -1,7 +1,7 @@
 // The two kinds of store of the IPv4 gateway, and a rule as its caller has it: six low and six high ends by field. Here alone the code has the numbers of the layout and the tops; the six fields stand by name also where a packet's values are taken one by one.
 #![tactic(auto)]
 
-ghost use Rattle.std.specs.Prelude.{◌≡◌, suc, length};
+ghost use Rattle.std.specs.Prelude.{◌≡◌, ◌≤◌, suc, length};
 ghost use Rattle.model.specs.Table.{packet_right};
 ghost use Rattle.model.specs.Ipv4.{ipv4, large, is_large, kind_in};
 ghost use Rattle.header.specs.Header.{values_in};
@@ -61,19 +61,26 @@ pub fn shape(large: bool) -> Shape<'static>
     }
 }
 
-// Does something with the shape of the kind that the words name, and with scratch for a store of that kind. Each kind has its branch here, with scratch of its own size: setting it to zeros takes the time that the kind needs. The compiled frame has room for the larger one.
+// Does something with the shape of large stores, or of small ones, and with so many numbers of scratch for sets and as many for ends, all 0.
+fn with<const N: usize, R, F: FnOnce(&Shape, &mut [u16], &mut [u32]) -> R>(large: bool, run: F) -> R
+    requires small { N ≤ 65536 }
+    requires called { (shape : _) (sets : _) (ends : _) → kind_of shape.now ≡ ipv4 large → length sets.now ≡ N → length ends.now ≡ N → F.pre run shape sets ends }
+    ensures { (shape : _) × (sets : _) × (ends : _) × (left_sets : _) × (left_ends : _) × (kind_of shape.now ≡ ipv4 large) × F.post run shape sets ends result left_sets left_ends }
+{
+    let mut sets = [0u16; N];
+    let mut ends = [0u32; N];
+    run(&shape(large), &mut sets, &mut ends)
+}
+
+// Does something with the shape of the kind that the words name, and with scratch for a store of that kind. Each kind has scratch of its own size: setting it to zeros takes the time that the kind needs. It stands in a function of its own, so that the compiler gives both one place in the call's frame, with room for the larger one.
 pub fn with_scratch<R, F: FnOnce(&Shape, &mut [u16], &mut [u32]) -> R>(words: &[u32], run: F) -> R
     requires { (shape : _) (sets : _) (ends : _) → kind_of shape.now ≡ kind_in words.now → Scratch (suc shape.now.most) (length shape.now.tops.now) sets.now ends.now → F.pre run shape sets ends }
     ensures { (shape : _) × (sets : _) × (ends : _) × (left_sets : _) × (left_ends : _) × (kind_of shape.now ≡ kind_in words.now) × F.post run shape sets ends result left_sets left_ends }
 {
     if is_large(words) {
-        let mut sets = [0u16; LARGE];
-        let mut ends = [0u32; LARGE];
-        return run(&shape(true), &mut sets, &mut ends);
+        return with::<LARGE, R, F>(true, run);
     }
-    let mut sets = [0u16; SMALL];
-    let mut ends = [0u32; SMALL];
-    run(&shape(false), &mut sets, &mut ends)
+    with::<SMALL, R, F>(false, run)
 }
 
 // Whether none of a packet's values is above its top. The two addresses have the whole range of a word.

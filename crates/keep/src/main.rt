@@ -16,17 +16,22 @@ fn main(rt: HostRuntime) {
         let _ = eprintln!(rt; "usage: keep ACTION, a number from 0 to 4294967295");
         return;
     };
+    filter(&rt, action);
+}
+
+// Reads the capture and writes the new one, and says what could not be taken or written. The table is a local of this function and not of `main`, since a function pays for its locals as it begins: a wrong argument pays nothing for it.
+fn filter(rt: &(impl Input + Print + Eprint), action: u32) {
     let mut words = [0u32; 16384];
     rules::fill(&mut words);
     let mut input = rt.reader();
-    let mut output = io::writer(&rt);
+    let mut output = io::writer(rt);
     let Some(order) = listing::read_file_header(&mut input) else {
         let _ = eprintln!(rt; "keep: the capture is not accepted, 12");
         return;
     };
     match keep(&words, action, order, &mut input, &mut output) {
-        Ok(end) => say_end(&rt, end),
-        Err(e) => say_why(&rt, e),
+        Ok(end) => say_end(rt, end),
+        Err(e) => say_why(rt, e),
     }
 }
 
@@ -58,8 +63,8 @@ fn keep<R: io::Read, W: Write>(
     for _ in 0..u64::MAX {
         match listing::read_record(order, input, &mut head, &mut bytes) {
             Ok(n) => {
-                let kept = keeping::put(words, action, order, &head, &bytes[..n], &mut out);
-                output.write_all(kept)?;
+                let k = keeping::put(words, action, order, &head, &bytes[..n], &mut out);
+                output.write_all(&out[..k])?;
             }
             Err(end) => return Ok(end),
         }

@@ -3,7 +3,7 @@
 // A promise can't speak of what reading gives. So the program reads, hands over what it got, and does what is said here.
 #![tactic(auto)]
 
-ghost use Rattle.std.specs.Prelude.{◌≡◌, ◌≤◌, length};
+ghost use Rattle.std.specs.Prelude.{◌≡◌, ◌≤◌, length, take};
 ghost use Rattle.keeping.specs.Keep.{asked_in, gives, kept_bytes};
 
 use lookup::Found;
@@ -31,24 +31,24 @@ fn gave(found: Found, action: u32) -> bool
     found.answer == 0 && found.action == action
 }
 
-// Puts a record into the lent bytes if its lookup gave the action, and answers the bytes that it has there: none if not.
-pub fn put<'a>(
+// Puts a record into the lent bytes if its lookup gave the action, and answers how many bytes it has there: none if not.
+pub fn put(
     words: &[u32],
     action: u32,
     order: Order,
     head: &[u8; 16],
     data: &[u8],
-    out: &'a mut [u8],
-) -> &'a [u8]
+    out: &mut [u8],
+) -> usize
     requires { (length «data».now ≤ 16384) × (length out.old ≡ 16400) }
-    ensures { result.now ≡ kept_bytes words.now action order head.now «data».now }
+    ensures { (result ≤ 16400) × (take result out.new ≡ kept_bytes words.now action order head.now «data».now) }
 {
     if !gave(lookup::lookup_packet(words, data), action) {
-        return &[];
+        return 0;
     }
     let seconds = octets::word_at(order, head, 0);
     let fraction = octets::word_at(order, head, 4);
     let original = octets::word_at(order, head, 12);
     let written = writing::add(out, seconds, fraction, original, data);
-    &out[..written.bytes as usize]
+    written.bytes as usize
 }

@@ -3,13 +3,11 @@
 // A promise can't speak of what reading gives. So what is read is handed over, and what it is is said here.
 #![tactic(auto)]
 
-ghost use Rattle.std.specs.Prelude.{◌≡◌, ◌++◌, ◌+◌, ◌<◌, ◌≤◌, length, IfOk};
-ghost use Rattle.arrayvec.specs.ArrayString.{array_string_len};
+ghost use Rattle.std.specs.Prelude.{◌≡◌, ◌++◌, ◌+◌, ◌≤◌, length, take, IfOk};
 ghost use Rattle.capture.specs.Pcap.{next_of, ending_of};
 ghost use Rattle.listing.specs.Lines.{item, line_of};
 ghost use Rattle.listing.specs.Records.{wanted_of, read_of, Opens, Reads};
 
-use arrayvec::ArrayString;
 use capture::End;
 use itoa::Buffer;
 use lookup::Found;
@@ -71,23 +69,27 @@ pub fn number_of(end: End) -> u64
     }
 }
 
-// Puts a record's line behind those that stand there.
-pub fn put_line<const N: usize>(lines: &mut ArrayString<N>, place: u64, found: Found)
-    requires { array_string_len lines.old + 105 ≤ N }
-    ensures { (array_string_len lines.new ≤ array_string_len lines.old + 105) × (lines.new.bytes ≡ lines.old.bytes ++ line_of place found) }
+// Puts a record's line behind the bytes that are used, and answers how many are used then.
+pub fn put_line(lines: &mut [u8], used: usize, place: u64, found: Found) -> usize
+    requires { used + 105 ≤ length lines.old }
+    ensures { (result ≤ used + 105) × (take result lines.new ≡ take used lines.old ++ line_of place found) }
 {
-    put(lines, place, ' ');
-    put(lines, u64::from(found.answer), ' ');
-    put(lines, u64::from(found.rule), ' ');
-    put(lines, u64::from(found.action), ' ');
-    put(lines, u64::from(found.reads), '\n');
+    let used = put(lines, used, place, b' ');
+    let used = put(lines, used, u64::from(found.answer), b' ');
+    let used = put(lines, used, u64::from(found.rule), b' ');
+    let used = put(lines, used, u64::from(found.action), b' ');
+    put(lines, used, u64::from(found.reads), b'\n')
 }
 
-// Puts a number's decimal digits and one character more.
-fn put<const N: usize>(lines: &mut ArrayString<N>, n: u64, behind: char)
-    requires { (array_string_len lines.old + 21 ≤ N) × (behind < 128) }
-    ensures { (array_string_len lines.new ≤ array_string_len lines.old + 21) × (lines.new.bytes ≡ lines.old.bytes ++ item n behind) }
+// Puts a number's decimal digits and one byte more at a place, and answers the place behind them.
+fn put(lines: &mut [u8], at: usize, n: u64, behind: u8) -> usize
+    requires { at + 21 ≤ length lines.old }
+    ensures { (result ≤ at + 21) × (take result lines.new ≡ take at lines.old ++ item n behind) }
 {
-    lines.push_str(Buffer::new().format(n));
-    lines.push(behind);
+    let mut digits = Buffer::new();
+    let text = digits.format(n).as_bytes();
+    let end = at + text.len();
+    octets::copy(text, lines, at);
+    lines[end] = behind;
+    end + 1
 }

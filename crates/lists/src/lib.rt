@@ -59,7 +59,7 @@ fn apply(front: &mut [u32], edits: &[u32], at: usize, shape: &Shape)
     let row = at + 1;
     let end = row + (2 + 2 * shape.tops.len());
     let n = front[1];
-    let place = table::before(&front[head..], n, shape, edits[row]);
+    let place = shape.before(&front[head..], n, edits[row]);
     if edits[at] == 0 {
         front::put_rule(front, n, place, &edits[row..end], shape);
         return;

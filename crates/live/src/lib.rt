@@ -27,7 +27,7 @@ fn place(words: &[u32], number: u32, shape: &Shape) -> u32
     if number == 65535 {
         return 0;
     }
-    let p = table::before(audit::rows(words, shape), words[1], shape, number);
+    let p = shape.before(audit::rows(words, shape), words[1], number);
     shape.row_start(p + 1)
 }
 

@@ -26,16 +26,23 @@ pub struct Found {
 }
 
 impl Found {
-    // A refusal: its number, and zeros. This is the one place where a refusal becomes an answer.
+    // A refusal: its number, and zeros.
     pub fn refused(refusal: Refusal) -> Found
         ensures { result ≡ refused (number_of refusal) }
     {
-        Found {
-            answer: refusal.number(),
-            rule: 0,
-            action: 0,
-            reads: 0,
-        }
+        refuse(refusal.number())
+    }
+}
+
+// A refusal by its number, and zeros. This is the one place where a refusal becomes an answer.
+pub fn refuse(answer: u32) -> Found
+    ensures { result ≡ refused answer }
+{
+    Found {
+        answer,
+        rule: 0,
+        action: 0,
+        reads: 0,
     }
 }
 
@@ -173,8 +180,9 @@ pub fn lookup(words: &[u32], packet: Packet) -> Found
 pub fn lookup_packet(words: &[u32], packet: &[u8]) -> Found
     ensures { result ≡ lookup_packet words.now packet.now }
 {
-    match header::read_header(packet) {
-        Ok(values) => lookup(words, values),
-        Err(refusal) => Found::refused(refusal),
-    }
+    let read = header::read_header(packet);
+    let Ok(values) = read else {
+        return refuse(refusal::answer(read));
+    };
+    lookup(words, values)
 }

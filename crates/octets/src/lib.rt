@@ -36,10 +36,12 @@ pub fn word_at(order: Order, s: &[u8], at: usize) -> u32
     }
 }
 
-// Copies all bytes of a slice to a place of another.
+// Copies all bytes of a slice to a place of another. (The library's `copy_from_slice` would have the C library move them.)
 pub fn copy(from: &[u8], to: &mut [u8], at: usize)
     requires { at + length from.now ≤ length to.old }
     ensures { to.new ≡ paste to.old at from.now (length from.now) }
 {
-    to[at..at + from.len()].copy_from_slice(from);
+    for i in 0..from.len() {
+        to[at + i] = from[i];
+    }
 }

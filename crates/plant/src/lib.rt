@@ -20,7 +20,7 @@ pub fn plant(words: &mut [u32], c: u32, n: u32, shape: &Shape, sets: &mut [u16],
     let head = shape.head as usize;
     let from = shape.rows_end() as usize;
     let end = from + (2 + 8 * (c as usize));
-    table::places(shape, n, sets);
+    shape.places(n, sets);
     build::build(
         &mut words[head..end],
         from - head,

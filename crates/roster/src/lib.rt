@@ -37,6 +37,16 @@ fn stands_behind(rows: &Rows, set: &[u16], n: usize, p: usize, x: u32) -> bool
     rows.word(usize::from(set[p])) == x
 }
 
+// Writes the first n numbers of a set into other words. (The library's `copy_from_slice` would have the C library move them, by a name that an archive does not need otherwise.)
+fn copy_set(set: &[u16], n: usize, out: &mut [u16])
+    requires { (n ≤ length set.now) × (n ≤ length out.old) }
+    ensures { take n out.new ≡ take n set.now }
+{
+    for i in 0..n {
+        out[i] = set[i];
+    }
+}
+
 // Whether the tree of the n rules of a set takes at most c cells.
 fn fits(
     rows: &Rows,
@@ -50,7 +60,7 @@ fn fits(
     requires { (n ≤ length set.now) × (c ≤ 65536) × Scratch n (length shape.now.tops.now) sets.old ends.old }
     ensures { result ≡ leb (cells (tree_at rows.now 0 (length shape.now.tops.now) (take n set.now))) c }
 {
-    sets[..n].copy_from_slice(&set[..n]);
+    copy_set(set, n, sets);
     let fields = shape.tops.len() as u32;
     count::count_chain(rows, sets, n, 0, fields, c, ends) <= c
 }
@@ -74,7 +84,7 @@ pub fn insert_into(
     if 65534 < number {
         return Err(Refusal::NumberTooHigh);
     }
-    if !table::right(more, row as u32, shape) {
+    if !shape.right(more, row as u32) {
         return Err(Refusal::WrongRange);
     }
     let both = Rows::new(rows, more);

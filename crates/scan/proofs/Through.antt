@@ -17,7 +17,7 @@ use Rattle.header.specs.Header.{values_in}
 use Rattle.ipv4.specs.declared.Rule.{Rule as Given}
 use Rattle.ipv4.specs.Rule.{given}
 use Rattle.scan.specs.declared.Lead.{Lead}
-use Rattle.scan.specs.Scan.{holds_packet, decider, rules_of, no_winner, scan_values, winner_of, stepped, through, at_end}
+use Rattle.scan.specs.Scan.{holds_packet, decider, rules_of, no_winner, scan_values, winner_of, stepped, through, at_end, decided}
 use Rattle.scan.proofs.Least.{lower, one_more}
 
 module _ (p : Packet) where
@@ -56,10 +56,14 @@ module _ (p : Packet) where
         (λ h. rw (begins x h, h) (ap (at_end a) (leading rs (given x))))
         (λ h. rw (passes_by None x h, h) (from_none rs))
 
-    pub scan_is : (rs : List Given) → packet_right large (values_in p) ≡ true → winner_of (Ok (at_end a (through p None rs))) ≡ scan_values rs a p.destination p.source p.protocol p.destination_port p.source_port p.portless
+    pub scan_right : (rs : List Given) → packet_right large (values_in p) ≡ true → winner_of (Ok (at_end a (through p None rs))) ≡ scan_values rs a p.destination p.source p.protocol p.destination_port p.source_port p.portless
     unfolding scan_values
-    scan_is rs h = rw (h, from_none rs)
+    scan_right rs h = rw (h, from_none rs)
 
     pub scan_refused : (rs : List Given) → packet_right large (values_in p) ≡ false → no_winner 11 ≡ scan_values rs a p.destination p.source p.protocol p.destination_port p.source_port p.portless
     unfolding scan_values
     scan_refused rs h = rw h
+
+    -- so the scan's answer is what is decided at the end
+    pub scan_is : (rs : List Given) → winner_of (decided a p (through p None rs)) ≡ scan_values rs a p.destination p.source p.protocol p.destination_port p.source_port p.portless
+    scan_is rs = by_test (packet_right large (values_in p)) (λ h. rw h (scan_right rs h)) (λ h. rw h (scan_refused rs h))

@@ -8,6 +8,7 @@ use Rattle.model.specs.Table.{Rule, number_of, fields, default_rule, packet_righ
 use Rattle.model.specs.Ipv4.{large}
 use Rattle.header.specs.declared.Packet.{Packet}
 use Rattle.refusal.specs.declared.Refusal.{Refusal}
+use Rattle.refusal.specs.declared.Refusal.TheVariants.{ValueTooHigh}
 use Rattle.refusal.specs.Refusals.{number_of as refusal_number}
 use Rattle.header.specs.Header.{values_in}
 use Rattle.ipv4.specs.declared.Rule.{Rule as Given}
@@ -70,3 +71,7 @@ through p = fold (stepped p)
 -- who leads once all were looked at: where no rule does, the default, whose number is 65,535
 abbrev pub at_end : ℕ → Option Lead → Lead
 at_end a l = unwrap_or l (record { number = 65535; action = a })
+
+-- and what is decided then: the one who leads, unless a value is above its top
+abbrev pub decided : ℕ → Packet → Option Lead → Result Lead Refusal
+decided a p l = cond (packet_right large (values_in p)) (Ok (at_end a l)) (Err ValueTooHigh)

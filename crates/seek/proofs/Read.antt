@@ -88,8 +88,8 @@ module _ (k : Kind) (sh : Shaped k) (ws : List ℕ) (p : ℕ) where
 
 -- CELLS
 module _ (k : Kind) (sh : Shaped k) (ws : List ℕ) where
-  pub cells_refused : passes k ws ≡ false → 9 ≡ cells_says k ws
-  cells_refused h = rw h
+  pub cells_refused : passes k ws ≡ false → (9 ≡ cells_says k ws) × (0 ≡ cells_gives k ws)
+  cells_refused h = (rw h, rw h)
 
   pub cells_done : passes k ws ≡ true → (E : ℕ) → E ≡ k.head + row_words k → (0 ≡ cells_says k ws) × (get_or ws E 0 ≡ cells_gives k ws)
   cells_done h E f = (rw h, rw (h, f) (sound_free k sh ws (sound k sh ws h)))

@@ -34,7 +34,7 @@ pub fn find(
     }
     let rows = audit::rows(words, shape);
     let n = words[1];
-    let p = table::before(rows, n, shape, number);
+    let p = shape.before(rows, n, number);
     if !table::stands_behind(rows, n, p, number, shape) {
         return Err(Refusal::NotThere);
     }

@@ -71,7 +71,7 @@ pub fn first_refusal(
 {
     let stride = shape.width as usize + 1;
     let mut m = n as usize;
-    table::places(shape, n, set);
+    shape.places(n, set);
     for i in 0..count {
         let at = stride * (i as usize);
         match edit(rows, edits, at, set, m, c, shape, sets, ends) {

@@ -10,6 +10,10 @@ use Rattle.table.specs.declared.shape.Shape.{Shape}
 abbrev pub kind_of : Shape → Kind
 kind_of s = record { tops = s.tops.now; ports = s.ports; most = s.most; width = s.width; head = s.head; mark = s.mark }
 
+-- the kind with these tops and its ports at this field, whatever its other numbers are
+abbrev pub kind_with : List ℕ → ℕ → ℕ → ℕ → ℕ → ℕ → Kind
+kind_with tops ports most width head mark = record { tops = tops; ports = ports; most = most; width = width; head = head; mark = mark }
+
 -- n rules of the rows of a kind: no more than it takes, and the words are all its rows
 pub record Rowed (k : Kind) (n : ℕ) (rows : List ℕ) : Type 0 where
   pub shaped : Shaped k

@@ -1,12 +1,12 @@
 // The table of a store in its rows: as many and as wide as its kind says, the default's first, then the rules by rising number, then rows of zeros. Read, held to the limits, and searched.
 #![tactic(auto)]
 
-ghost use Rattle.std.specs.Prelude.{◌≡◌, true, ◌&&◌, suc, ◌+◌, ◌*◌, ◌%◌, ◌≤◌, ◌<◌, leb, eqb, length, get_or, take};
+ghost use Rattle.std.specs.Prelude.{◌≡◌, true, ◌&&◌, ℕ, suc, ◌+◌, ◌*◌, ◌%◌, ◌≤◌, ◌<◌, leb, eqb, length, get_or, take};
 ghost use Rattle.model.specs.Lists.{same};
 ghost use Rattle.model.specs.Rules.{ranges_right};
-ghost use Rattle.model.specs.Table.{default_rule, stands, fields_from, rising_from, ports_right, rule_right, all_right};
+ghost use Rattle.model.specs.Table.{Kind, default_rule, stands, fields_from, rising_from, ports_right, rule_right, all_right};
 ghost use Rattle.rows.specs.Rows.{low_in, high_in};
-ghost use Rattle.table.specs.Rows.{kind_of, row_word, rows_text, rule_in, table_in, places as places_of, ahead, Rowed, Tells, First, Zeros, Blank};
+ghost use Rattle.table.specs.Rows.{kind_of, kind_with, row_word, rows_text, rule_in, table_in, places as places_of, ahead, Rowed, Tells, First, Zeros, Blank};
 
 mod shape;
 
@@ -42,7 +42,7 @@ impl Shape<'_> {
         requires { place ≤ 513 }
         ensures { (result ≡ self.now.width * place) × (result ≤ 15903) }
     {
-        self.width * place
+        row_start(self.width, place)
     }
 
     // How many words stand before the two links: the head and the rows.
@@ -56,15 +56,53 @@ impl Shape<'_> {
     pub fn begins(&self, n: u32, at: u32) -> bool
         ensures { result ≡ (leb at (self.now.width * self.now.most) && (leb at (self.now.width * n) && eqb (at % self.now.width) 0)) }
     {
-        let width = self.width;
-        if self.row_start(self.most) < at {
-            return false;
-        }
-        if (width as usize) * (n as usize) < (at as usize) {
-            return false;
-        }
-        at % width == 0
+        begins(self.width, self.most, n, at)
     }
+
+    // Whether the rule at a place of the rows is one that a table may hold.
+    pub fn right(&self, rows: &[u32], place: u32) -> bool
+        ensures { result ≡ rule_right (kind_of self.now) (rule_in (length self.now.tops.now) rows.now place) }
+    {
+        right(rows, place, self.tops, self.ports)
+    }
+
+    // How many of the n rules of the rows stand before the place of the number x.
+    pub fn before(&self, rows: &[u32], n: u32, x: u32) -> u32
+        requires { (n ≤ 512) × (rising_from 0 (table_in (kind_of self.now) n rows.now).rules ≡ true) }
+        ensures { (result ≡ ahead x (table_in (kind_of self.now) n rows.now).rules) × (result ≤ n) }
+    {
+        before(rows, n, self.width, x)
+    }
+
+    // Writes where the rows of a table of n rules begin, by rising number, the default's last.
+    pub fn places(&self, n: u32, out: &mut [u16])
+        requires { (n ≤ 512) × (n < length out.old) }
+        ensures { take (n + 1) out.new ≡ places_of self.now.width n }
+    {
+        places(self.width, n, out)
+    }
+}
+
+// Where a row begins, by the words of a row.
+pub fn row_start(width: u32, place: u32) -> u32
+    requires { (width ≤ 31) × (place ≤ 513) }
+    ensures { (result ≡ width * place) × (result ≤ 15903) }
+{
+    width * place
+}
+
+// Whether one of n rows behind the default's, or the default's, begins at a word, by the words of a row and the most rules that there may be.
+pub fn begins(width: u32, most: u32, n: u32, at: u32) -> bool
+    requires { (2 ≤ width) × (width ≤ 31) × (most ≤ 512) }
+    ensures { result ≡ (leb at (width * most) && (leb at (width * n) && eqb (at % width) 0)) }
+{
+    if row_start(width, most) < at {
+        return false;
+    }
+    if (width as usize) * (n as usize) < (at as usize) {
+        return false;
+    }
+    at % width == 0
 }
 
 // Whether the first row is the default's.
@@ -144,12 +182,13 @@ pub fn rising(rows: &[u32], n: u32, shape: &Shape) -> bool
 }
 
 // Whether no low end of the rule at a place is above its high end, and no high end above its field's top.
-fn ranges_right(rows: &[u32], place: u32, shape: &Shape) -> bool
-    ensures { result ≡ ranges_right (fields_from 0 shape.now.tops.now) (rule_in (length shape.now.tops.now) rows.now place) }
+fn ranges_right(rows: &[u32], place: u32, tops: &[u32]) -> bool
+    requires { length tops.now ≤ 32 }
+    ensures { result ≡ ranges_right (fields_from 0 tops.now) (rule_in (length tops.now) rows.now place) }
 {
     let table = Rows::of(rows);
     let mut f: u32 = 0;
-    for top in shape.tops {
+    for top in tops {
         let end = table.high(place, f);
         if end < table.low(place, f) {
             return false;
@@ -171,28 +210,29 @@ fn asks(rows: &[u32], place: u32, field: u32, from: u32, to: u32) -> bool
 }
 
 // Whether the rule at a place asks for ports only of packets that have them: both its port ranges are full, or its range of the mark behind them is 0 to 0.
-fn ports_right(rows: &[u32], place: u32, shape: &Shape) -> bool
-    ensures { result ≡ ports_right (kind_of shape.now) (rule_in (length shape.now.tops.now) rows.now place) }
+fn ports_right(rows: &[u32], place: u32, tops: &[u32], ports: u32) -> bool
+    requires { (length tops.now ≤ 32) × (ports + 3 ≡ length tops.now) }
+    ensures { (most width head mark : ℕ) → result ≡ ports_right (kind_with tops.now ports most width head mark) (rule_in (length tops.now) rows.now place) }
 {
-    let first = shape.ports;
-    if asks(rows, place, first + 2, 0, 0) {
+    if asks(rows, place, ports + 2, 0, 0) {
         return true;
     }
-    if !asks(rows, place, first, 0, word(shape.tops, first as usize)) {
+    if !asks(rows, place, ports, 0, word(tops, ports as usize)) {
         return false;
     }
-    let top = word(shape.tops, (first as usize) + 1);
-    asks(rows, place, first + 1, 0, top)
+    let top = word(tops, (ports as usize) + 1);
+    asks(rows, place, ports + 1, 0, top)
 }
 
-// Whether the rule at a place is one that a table may hold.
-pub fn right(rows: &[u32], place: u32, shape: &Shape) -> bool
-    ensures { result ≡ rule_right (kind_of shape.now) (rule_in (length shape.now.tops.now) rows.now place) }
+// Whether the rule at a place is one that a table may hold, by the tops of its fields and where the ports stand among them.
+pub fn right(rows: &[u32], place: u32, tops: &[u32], ports: u32) -> bool
+    requires { (length tops.now ≤ 32) × (ports + 3 ≡ length tops.now) }
+    ensures { (most width head mark : ℕ) → result ≡ rule_right (kind_with tops.now ports most width head mark) (rule_in (length tops.now) rows.now place) }
 {
-    if !ranges_right(rows, place, shape) {
+    if !ranges_right(rows, place, tops) {
         return false;
     }
-    ports_right(rows, place, shape)
+    ports_right(rows, place, tops, ports)
 }
 
 // Whether each of the n rules is one that a table may hold.
@@ -201,21 +241,21 @@ pub fn all_right(rows: &[u32], n: u32, shape: &Shape) -> bool
     ensures { result ≡ all_right (kind_of shape.now) (table_in (kind_of shape.now) n rows.now).rules }
 {
     for p in 0..n {
-        if !right(rows, shape.row_start(p + 1), shape) {
+        if !shape.right(rows, shape.row_start(p + 1)) {
             return false;
         }
     }
     true
 }
 
-// How many of the n rules stand before the place of the number x. It is looked for from the highest number down, so that a number above all others is placed at the first look.
-pub fn before(rows: &[u32], n: u32, shape: &Shape, x: u32) -> u32
-    requires { (n ≤ 512) × (rising_from 0 (table_in (kind_of shape.now) n rows.now).rules ≡ true) }
-    ensures { (result ≡ ahead x (table_in (kind_of shape.now) n rows.now).rules) × (result ≤ n) }
+// How many of the n rules stand before the place of the number x, by the words of a row. It is looked for from the highest number down, so that a number above all others is placed at the first look.
+pub fn before(rows: &[u32], n: u32, width: u32, x: u32) -> u32
+    requires { (n ≤ 512) × (width ≤ 31) }
+    ensures { ((k : Kind) → k.width ≡ width → rising_from 0 (table_in k n rows.now).rules ≡ true → result ≡ ahead x (table_in k n rows.now).rules) × (result ≤ n) }
 {
     let table = Rows::of(rows);
     for p in (0..n).rev() {
-        if table.number(shape.row_start(p + 1)) < x {
+        if table.number(row_start(width, p + 1)) < x {
             return p + 1;
         }
     }
@@ -234,12 +274,12 @@ pub fn stands_behind(rows: &[u32], n: u32, p: u32, x: u32, shape: &Shape) -> boo
 }
 
 // Writes where the rows of a table of n rules begin, by rising number, the default's last.
-pub fn places(shape: &Shape, n: u32, out: &mut [u16])
-    requires { (n ≤ 512) × (n < length out.old) }
-    ensures { take (n + 1) out.new ≡ places_of shape.now.width n }
+pub fn places(width: u32, n: u32, out: &mut [u16])
+    requires { (width ≤ 31) × (n ≤ 512) × (n < length out.old) }
+    ensures { take (n + 1) out.new ≡ places_of width n }
 {
     for i in 0..n {
-        out[i as usize] = shape.row_start(i + 1) as u16;
+        out[i as usize] = row_start(width, i + 1) as u16;
     }
     out[n as usize] = 0;
 }

@@ -58,7 +58,7 @@ pub fn add(out: &mut [u8], seconds: u32, fraction: u32, original: u32, data: &[u
     put_little(out, 4, fraction);
     put_little(out, 8, captured);
     put_little(out, 12, original);
-    out[16..16 + n].copy_from_slice(data);
+    octets::copy(data, out, 16);
     Written {
         answer: 0,
         bytes: 16 + captured,

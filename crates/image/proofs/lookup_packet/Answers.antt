@@ -1,13 +1,15 @@
 -- `image::lookup_packet` meets its contract: what the lookup says goes by what the header gives.
 -- Assumes nothing.
-use Rattle.std.proofs.Common.{sym, ◌∙◌}
+use Rattle.std.proofs.Common.{sym, ap, ◌∙◌}
+use Rattle.refusal.specs.Refusals.{answer_of}
+use Rattle.lookup.specs.Walk.{refused}
 use Rattle.image.proofs.Steps.{by_header}
 use Rattle.image.proofs.lookup_packet.Goals as goal
 
--- values
-pub returns-in-Ok : goal.returns-in-Ok
-returns-in-Ok c = c.lookup.ensures ∙ by_header _ _ _ (sym c.in-Ok.is ∙ c.read_header.ensures)
-
 -- a refusal
-pub returns-in-Err : goal.returns-in-Err
-returns-in-Err c = c.refused.ensures ∙ by_header _ _ _ (sym c.in-Err.is ∙ c.read_header.ensures)
+pub returns-in_default : goal.returns-in_default
+returns-in_default c = c.refuse.ensures ∙ ap refused (c.answer.ensures ∙ ap answer_of c.in_default.is) ∙ by_header _ _ _ (sym c.in_default.is ∙ c.read_header-read.ensures)
+
+-- values
+pub returns : goal.returns
+returns c = c.lookup.ensures ∙ by_header _ _ _ (sym c.in-Ok.is ∙ c.read_header-read.ensures)

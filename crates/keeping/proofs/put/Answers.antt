@@ -8,11 +8,11 @@ use Rattle.writing.specs.Writing.{record_bytes, add_says, add_leaves}
 use Rattle.keeping.specs.Keep.{gives}
 use Rattle.keeping.proofs.put.Goals as goal
 
-written : (out row : List ℕ) (s f o : ℕ) (w : Written) (x : List ℕ) → length row ≤ 16384 → length out ≡ 16400 → w ≡ add_says out row → x ≡ add_leaves out s f o row → take w.bytes x ≡ record_bytes s f o row
+written : (out row : List ℕ) (s f o : ℕ) (w : Written) (x : List ℕ) → length row ≤ 16384 → length out ≡ 16400 → w ≡ add_says out row → x ≡ add_leaves out s f o row → (w.bytes ≤ 16400) × (take w.bytes x ≡ record_bytes s f o row)
 written out row s f o w x h k d e =
     let m : 16 + length row ≤ length out = omega arith in
     rw (d, e, le-ltb _ _ h, le-ltb _ _ m)
-    (take_at (record_bytes s f o row) (drop (length (record_bytes s f o row)) out) (16 + length row) (omega arith))
+    (omega arith, take_at (record_bytes s f o row) (drop (length (record_bytes s f o row)) out) (16 + length row) (omega arith))
 
 pub returns : goal.returns
 returns c =

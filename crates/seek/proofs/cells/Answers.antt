@@ -11,7 +11,7 @@ use Rattle.seek.proofs.cells.Goals as goal
 pub returns-then-not-check : goal.returns-then-not-check
 returns-then-not-check c =
     let a = c.args in
-    (cells_refused (kind_of a.shape.now) a.shape.now.shaped a.words.now (sym c.check.ensures ∙ c.if-not-check.true), tt)
+    ((cells_refused (kind_of a.shape.now) a.shape.now.shaped a.words.now (sym c.check.ensures ∙ c.if-not-check.true)).0, tt)
 
 pub bounds-words-rows_end : goal.bounds-words-rows_end
 bounds-words-rows_end c =

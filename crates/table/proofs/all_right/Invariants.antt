@@ -1,6 +1,5 @@
 -- `table::all_right` meets its contract. The invariant: the rules that are left decide.
 -- Assumes nothing.
-use Prim.Native.Nat.{◌-◌}
 use mathlib.Core.Path.{◌≡◌}
 use lib.ListN.{drop}
 use Rattle.model.specs.Table.{all_right}

@@ -1,6 +1,5 @@
 -- `table::blank` meets its contract. The invariant: every row so far is blank.
 -- Assumes nothing.
-use Prim.Native.Nat.{◌-◌}
 use Rattle.table.specs.Rows.{Blank}
 use Rattle.table.proofs.blank.Given as goal
 

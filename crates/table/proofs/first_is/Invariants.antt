@@ -1,6 +1,6 @@
 -- `table::first_is` meets its contract. The invariant: every word so far is the default's.
 -- Assumes nothing.
-use Prim.Native.Nat.{ℕ, ◌<◌, ◌-◌}
+use Prim.Native.Nat.{ℕ, ◌<◌}
 use mathlib.Core.Path.{◌≡◌}
 use lib.ListN.{get_or}
 use Rattle.model.specs.Table.{default_rule}

@@ -15,7 +15,7 @@ pub loop-i-preserved : goal.loop-i-preserved
 loop-i-preserved c =
     let l = c.loop-i in
     let a = c.args in
-    rw (c.row_start.ensures.0, add-one l.i) (rw (add-one l.i) at (fill_step (λ j. a.shape.now.width * suc j) l.out l.i l.invariant (omega arith)))
+    rw (c.row_start.ensures.0, add-one l.i) (rw (add-one l.i) at (fill_step (λ j. a.width * suc j) l.out l.i l.invariant (omega arith)))
 
 pub returns : goal.returns
 returns c =
@@ -23,4 +23,4 @@ returns c =
     let a = c.args in
     let z : l.i ≡ a.n = omega arith in
     let long = l.auto.out in
-    places_end a.shape.now.width a.n l.out (omega arith) (rw z at l.invariant)
+    places_end a.width a.n l.out (omega arith) (rw z at l.invariant)

@@ -7,4 +7,4 @@ use Rattle.model.specs.Lists.{up_to}
 use Rattle.table.proofs.places.Given as goal
 
 abbrev pub invariant-loop-i : goal.invariant-loop-i
-invariant-loop-i l = take l.i l.out ≡ up_to l.i (λ j. l.shape.width * suc j)
+invariant-loop-i l = take l.i l.out ≡ up_to l.i (λ j. l.width * suc j)

@@ -1,6 +1,6 @@
 -- `table::zeros` meets its contract. The invariant: every word so far is 0.
 -- Assumes nothing.
-use Prim.Native.Nat.{ℕ, ◌≤◌, ◌<◌, ◌-◌}
+use Prim.Native.Nat.{ℕ, ◌≤◌, ◌<◌}
 use mathlib.Core.Path.{◌≡◌}
 use lib.ListN.{get_or}
 use Rattle.table.proofs.zeros.Given as goal
