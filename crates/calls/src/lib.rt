@@ -5,6 +5,9 @@ ghost use Rattle.std.specs.Prelude.{◌≡◌, ◌≢◌, ◌∷◌, false, repl
 ghost use Rattle.calls.specs.Calls.{word_of, given_to};
 ghost use Rattle.calls.specs.declared.Call.{Call};
 
+#[cfg(test)]
+mod tests;
+
 use header::Packet;
 use ipv4::Rule;
 use lookup::Found;

@@ -4,17 +4,18 @@
 ghost use Rattle.std.specs.Prelude.{◌≡◌, ◌≢◌, ◌↔◌, ◌+◌, ◌-◌, ◌*◌, ◌<◌, ◌≤◌, ◌++◌, [], IsTrue, true, false, codes, length, take, replicate, slice_index, IfSome, MatchOption};
 
 // A case: the word of its call, its bytes, the numbers given, and those wanted, with zeros behind them. Where something else than a number stands among the numbers given, or too many, those before it are given, and they are not whole; where it stands among those wanted, the last one is 4,294,967,295. A word of more than eight letters, which is that of no call, is cut behind nine.
+// Other crates read all of it, and build cases of their own parts: so the numbers before something else are there for them too.
 #[derive(Clone, Copy)]
 pub struct Case<'a> {
     pub word: &'a [u8],
     pub wanted: [u32; 16],
-    bytes: [u8; 128],
-    byte_count: usize,
-    given: [u32; 16],
-    given_count: usize,
-    whole: bool,
-    ghost bytes_fit: { byte_count ≤ 128 },
-    ghost given_fit: { given_count ≤ 16 },
+    pub bytes: [u8; 128],
+    pub byte_count: usize,
+    pub given: [u32; 16],
+    pub given_count: usize,
+    pub whole: bool,
+    pub ghost bytes_fit: { byte_count ≤ 128 },
+    pub ghost given_fit: { given_count ≤ 16 },
 }
 
 // How many numbers were read, whether nothing else stands among them, and what is left of the line behind them.
